@@ -1,0 +1,4 @@
+pub mod Rate
+pub mod Span
+pub mod World
+pub mod Exact

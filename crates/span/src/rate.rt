@@ -1,0 +1,55 @@
+// How far true time goes on while the local clock counts ticks.
+ghost use mathlib.Core.Path.{_≡_};
+ghost use Prim.Native.Nat.{_≤_, _<_, _-_, _^_, min};
+ghost use Rattle.std.specs.Options.{Cases};
+ghost use Rattle.span.specs.Rate.{least, most, share};
+
+const MILLION: u64 = 1_000_000;
+
+// By how many millionths the local clock may be fast or slow: at most a thousand.
+#[derive(Clone, Copy)]
+pub struct Drift {
+    millionths: u32,
+    ghost small: { millionths ≤ 1000 },
+}
+
+impl Drift {
+    // A drift of so many millionths, or none where that is above a thousand.
+    pub fn new(millionths: u32) -> Option<Drift>
+        ensures cases { λ r. ⌜ Cases r (1000 < millionths) (λ d. (millionths ≤ 1000) × (d .millionths ≡ millionths)) ⌝ }
+    {
+        if millionths > 1000 {
+            return None;
+        }
+        Some(Drift { millionths })
+    }
+
+    pub fn millionths(self) -> u32
+        ensures value { λ r. ⌜ r ≡ self .millionths ⌝ }
+    {
+        self.millionths
+    }
+
+    // The drift's share of so many ticks, rounded down. The product is cut in two, whole millions of ticks and the rest, so that it fits.
+    pub fn share(self, ticks: u64) -> u64
+        ensures value { λ r. ⌜ r ≡ share (self .millionths) ticks ⌝ }
+        ensures small { λ r. ⌜ r ≤ ticks ⌝ }
+    {
+        let rate = u64::from(self.millionths);
+        ticks / MILLION * rate + ticks % MILLION * rate / MILLION
+    }
+
+    // The least that true time goes on in so many ticks, rounded up.
+    pub fn least(self, ticks: u64) -> u64
+        ensures value { λ r. ⌜ r ≡ least (self .millionths) ticks ⌝ }
+    {
+        ticks - self.share(ticks)
+    }
+
+    // The most that true time goes on in so many ticks, rounded down; the largest number where that is larger.
+    pub fn most(self, ticks: u64) -> u64
+        ensures value { λ r. ⌜ r ≡ min (most (self .millionths) ticks) (2 ^ 64 - 1) ⌝ }
+    {
+        ticks.saturating_add(self.share(ticks))
+    }
+}
