@@ -103,6 +103,7 @@ unfolding numeral
 numbers-read n h = decimal-by-steps ReadAs one more n h h where
   one : (n : ℕ) → n < 10 → ReadAs n ((48 + n) ∷ [])
   one n small fits = then-ok (digit 0 (48 + n)) (λ w. Ok w) n (digit-is 0 n small (omega arith) ∙ ap (λ x. Ok x) (omega arith))
+
   more : (n : ℕ) (ds : List ℕ) → 10 ≤ n → ReadAs (n / 10) ds → ReadAs n (ds ++ ((48 + n % 10) ∷ []))
   more n ds large back fits =
       numeral-push 0 ds (48 + n % 10)

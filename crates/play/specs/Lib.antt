@@ -1,1 +1,5 @@
 pub mod Words
+pub mod Script
+pub mod Scene
+pub mod Plays
+pub mod Player

@@ -88,7 +88,11 @@ pub fn ended(line: &[u8]) -> Result<(), Unread>
     ensures value { λ r. ⌜ r ≡ ended (now (line .entry)) ⌝ }
 {
     let (word, _) = first_word(line);
-    if word.is_empty() { Ok(()) } else { Err(Unread::TooMuch) }
+    if word.is_empty() {
+        Ok(())
+    } else {
+        Err(Unread::TooMuch)
+    }
 }
 
 // The one number that is left on the line.

@@ -3,7 +3,10 @@ use mathlib.Core.Path.{_≡_, sym, ap, _∙_}
 use Prim.Native.Nat.{ℕ, _+_, _-_, _*_, _/_, _%_, _≤_}
 use native.Mathlib.Nat.{div-add-mod', add-mul, mul-add, mul-sub, mul-right-comm, mul-le-mul-left}
 use native.Mathlib.Omega.{arith}
-use Rattle.span.specs.Rate.{million, least, most, share}
+use mathlib.Core.Bool.{true}
+use Rattle.std.specs.Orderings.{Decides}
+use Rattle.std.proofs.shelf.Ways.{tells}
+use Rattle.span.specs.Rate.{million, Fits, least, most, allowed, share}
 
 -- n ticks are whole millions and a rest, and so is their product with k
 split : (n k : ℕ) → n / million * k * million + n % million * k ≡ n * k
@@ -31,3 +34,22 @@ least-ticks d n = let h : n * (million - d) ≤ n * million = mul-le-mul-left n 
 
 pub ticks-most : (d n : ℕ) → n ≤ most d n
 ticks-most d n = let h : n * million ≤ n * (million + d) = mul-le-mul-left n (omega arith) in omega arith
+
+-- a step fits exactly if it is at least the least and at most the most
+pub fits-between : (d n t u : ℕ) → Fits d n t u → (t + least d n ≤ u) × (u ≤ t + most d n)
+fits-between d n t u h = (omega (arith, h .0), omega (arith, h .1))
+
+pub between-fits : (d n t u : ℕ) → t + least d n ≤ u → u ≤ t + most d n → Fits d n t u
+between-fits d n t u h k = (omega arith, omega arith)
+
+pub allowed-fits : (d n t u : ℕ) → Decides (allowed d n u) (Fits d n t (t + u))
+allowed-fits d n t u = (
+  λ h. let f = ends h in between-fits d n t (t + u) (omega arith) (omega arith),
+  λ f. let h = fits-between d n t (t + u) f in back (omega arith) (omega arith),
+)
+  where
+    ends : allowed d n u ≡ true → (least d n ≤ u) × (u ≤ most d n)
+    ends h = grind (arith, tells)
+
+    back : least d n ≤ u → u ≤ most d n → allowed d n u ≡ true
+    back h k = grind (arith, tells)

@@ -10,14 +10,7 @@ use Rattle.span.specs.Span.{isIn, later, atMost, atLeast, span, ceiling}
 use Rattle.span.specs.Exact.{StepExact, CutExact}
 use Rattle.span.specs.declared.Span.{Span}
 use Rattle.span.specs.declared.Span.the-variants.{Between, Empty}
-use Rattle.span.proofs.Products.{least-ticks, ticks-most}
-
--- a step fits exactly if it is at least the least and at most the most
-pub fits-between : (d n t u : ℕ) → Fits d n t u → (t + least d n ≤ u) × (u ≤ t + most d n)
-fits-between d n t u h = (omega (arith, h .0), omega (arith, h .1))
-
-pub between-fits : (d n t u : ℕ) → t + least d n ≤ u → u ≤ t + most d n → Fits d n t u
-between-fits d n t u h k = (omega arith, omega arith)
+use Rattle.span.proofs.Products.{least-ticks, ticks-most, fits-between, between-fits}
 
 in-span : (t lo hi : ℕ) → lo ≤ t → t ≤ hi → T (isIn t (span lo hi))
 in-span t lo hi h k = grind (arith, tells)

@@ -2,3 +2,4 @@ pub mod Rate
 pub mod Span
 pub mod World
 pub mod Exact
+pub mod Cases

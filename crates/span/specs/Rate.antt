@@ -1,4 +1,6 @@
 -- How far true time goes on while the local clock counts n ticks, if the clock is at most d millionths fast or slow: as a relation between two true times, and as the least and the most in whole microseconds.
+use mathlib.Core.Bool.{Bool, _&&_}
+use lib.Dec.{leb}
 use Prim.Native.Nat.{ℕ, _+_, _-_, _*_, _/_, _≤_}
 
 abbrev pub million : ℕ
@@ -15,6 +17,10 @@ least d n = (n * (million - d) + (million - 1)) / million
 -- the most that it goes on, rounded down
 abbrev pub most : ℕ → ℕ → ℕ
 most d n = n * (million + d) / million
+
+-- true time can go on by u in n ticks
+abbrev pub allowed : ℕ → ℕ → ℕ → Bool
+allowed d n u = leb (least d n) u && leb u (most d n)
 
 -- d millionths of n, rounded down
 abbrev pub share : ℕ → ℕ → ℕ

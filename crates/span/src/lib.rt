@@ -2,9 +2,12 @@
 ghost use mathlib.Core.Path.{_≡_};
 ghost use Prim.Native.Nat.{_≤_};
 ghost use Rattle.span.specs.Span.{later, atMost, atLeast, isIn, span, upto, widthOf};
+ghost use Rattle.span.specs.Cases.{Worked};
 ghost use Rattle.span.specs.Exact.{StepExact, CutExact};
 
 pub mod rate;
+#[cfg(test)]
+mod tests;
 
 use rate::Drift;
 
@@ -23,7 +26,11 @@ impl Span {
     pub fn new(lo: u64, hi: u64) -> Span
         ensures value { λ r. ⌜ r ≡ span lo hi ⌝ }
     {
-        if lo <= hi { Span::Between(lo, hi) } else { Span::Empty }
+        if lo <= hi {
+            Span::Between(lo, hi)
+        } else {
+            Span::Empty
+        }
     }
 
     // Every time up to `latest`, and none above the ceiling.
@@ -37,6 +44,7 @@ impl Span {
     pub fn later(self, drift: Drift, ticks: u64) -> Span
         ensures value { λ r. ⌜ r ≡ later (drift .millionths) ticks self ⌝ }
         ensures exact { λ r. ⌜ StepExact (drift .millionths) ticks self r ⌝ }
+        ensures worked { λ _. ⌜ Worked ⌝ }
     {
         let Span::Between(lo, hi) = self else {
             return Span::Empty;

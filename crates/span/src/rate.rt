@@ -1,21 +1,22 @@
 // How far true time goes on while the local clock counts ticks.
 ghost use mathlib.Core.Path.{_≡_};
-ghost use Prim.Native.Nat.{_≤_, _<_, _-_, _^_, min};
+ghost use Prim.Native.Nat.{ℕ, _+_, _-_, _^_, _≤_, _<_, min};
 ghost use Rattle.std.specs.Options.{Cases};
-ghost use Rattle.span.specs.Rate.{least, most, share};
+ghost use Rattle.std.specs.Orderings.{Decides};
+ghost use Rattle.span.specs.Rate.{Fits, allowed, least, most, share};
 
 const MILLION: u64 = 1_000_000;
 
 // By how many millionths the local clock may be fast or slow: at most a thousand.
 #[derive(Clone, Copy)]
 pub struct Drift {
-    millionths: u32,
+    millionths: u64,
     ghost small: { millionths ≤ 1000 },
 }
 
 impl Drift {
     // A drift of so many millionths, or none where that is above a thousand.
-    pub fn new(millionths: u32) -> Option<Drift>
+    pub fn new(millionths: u64) -> Option<Drift>
         ensures cases { λ r. ⌜ Cases r (1000 < millionths) (λ d. (millionths ≤ 1000) × (d .millionths ≡ millionths)) ⌝ }
     {
         if millionths > 1000 {
@@ -24,19 +25,12 @@ impl Drift {
         Some(Drift { millionths })
     }
 
-    pub fn millionths(self) -> u32
-        ensures value { λ r. ⌜ r ≡ self .millionths ⌝ }
-    {
-        self.millionths
-    }
-
     // The drift's share of so many ticks, rounded down. The product is cut in two, whole millions of ticks and the rest, so that it fits.
     pub fn share(self, ticks: u64) -> u64
         ensures value { λ r. ⌜ r ≡ share (self .millionths) ticks ⌝ }
         ensures small { λ r. ⌜ r ≤ ticks ⌝ }
     {
-        let rate = u64::from(self.millionths);
-        ticks / MILLION * rate + ticks % MILLION * rate / MILLION
+        ticks / MILLION * self.millionths + ticks % MILLION * self.millionths / MILLION
     }
 
     // The least that true time goes on in so many ticks, rounded up.
@@ -51,5 +45,13 @@ impl Drift {
         ensures value { λ r. ⌜ r ≡ min (most (self .millionths) ticks) (2 ^ 64 - 1) ⌝ }
     {
         ticks.saturating_add(self.share(ticks))
+    }
+
+    // Whether true time can go on by `step` in so many ticks.
+    pub fn allows(self, ticks: u64, step: u64) -> bool
+        ensures value { λ r. ⌜ r ≡ allowed (self .millionths) ticks step ⌝ }
+        ensures exact { λ r. ⌜ ((t : ℕ) → Decides r (Fits (self .millionths) ticks t (t + step))) ⌝ }
+    {
+        self.least(ticks) <= step && step <= self.most(ticks)
     }
 }
