@@ -12,8 +12,8 @@ use Rattle.span.specs.Rate.{Fits, allowed}
 use Rattle.span.specs.Span.{isIn, later, upto, ceiling}
 use Rattle.span.specs.World.{Event, Rules, Faulty, Way, World, howMany, begins, goes}
 use Rattle.span.proofs.Products.{allowed-fits}
-use Rattle.span.proofs.Steps.{step-exact}
-use Rattle.play.specs.declared.script.Settings.{Settings}
+use Rattle.span.proofs.Steps.{step-exact, in-upto, of-upto}
+use Rattle.script.specs.declared.Settings.{Settings}
 use Rattle.play.specs.declared.scene.Fault.the-variants.{SettingsRange, OutsideDrift, PastCeiling, PastCount}
 use Rattle.play.specs.Scene.{Played, shown, latest, inRange, began, passed}
 use Rattle.play.specs.Plays.{nobody, rulesOf, shows, Says, Plays, Begins, Goes}
@@ -35,12 +35,6 @@ begin-world r u h k = record {
 
 begin-way : {r : Rules} {who : Faulty} {u : ℕ} {ts : List ℕ} → Way r who [] u ts → (u ≤ r .latest) × (u ≤ ceiling)
 begin-way (begins h k) = (h, k)
-
-in-upto : (l u : ℕ) → u ≤ l → u ≤ ceiling → T (isIn u (upto l))
-in-upto l u h k = grind (arith, tells)
-
-of-upto : (l u : ℕ) → T (isIn u (upto l)) → (u ≤ l) × (u ≤ ceiling)
-of-upto l u h = grind (arith, tells)
 
 says-first : (r : Rules) → Says r [] (upto (r .latest))
 says-first r u = (

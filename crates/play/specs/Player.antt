@@ -11,9 +11,9 @@ use Rattle.std.specs.Options.{mapped}
 use Rattle.std.specs.Results.{Cases}
 use Rattle.std.specs.Vec.{made}
 use Rattle.span.specs.World.{Event, Rules}
-use Rattle.play.specs.declared.words.Unread.{Unread}
-use Rattle.play.specs.declared.script.Statement.{Statement}
-use Rattle.play.specs.declared.script.Statement.the-variants.{Nothing, Begin, Pass}
+use Rattle.script.specs.declared.words.Unread.{Unread}
+use Rattle.script.specs.declared.Statement.{Statement}
+use Rattle.script.specs.declared.Statement.the-variants.{Nothing, Begin, Pass}
 use Rattle.play.specs.declared.scene.Moment.{Moment}
 use Rattle.play.specs.declared.scene.Fault.{Fault}
 use Rattle.play.specs.declared.scene.Fault.the-variants.{NoSettings, SettingsAgain}

@@ -10,7 +10,7 @@ use Rattle.span.specs.declared.Span.{Span}
 use Rattle.span.specs.Rate.{Fits}
 use Rattle.span.specs.Span.{isIn, ceiling}
 use Rattle.span.specs.World.{Deed, Event, Rules, Faulty, Way, World}
-use Rattle.play.specs.declared.script.Settings.{Settings}
+use Rattle.script.specs.declared.Settings.{Settings}
 use Rattle.play.specs.declared.scene.Fault.{Fault}
 use Rattle.play.specs.declared.scene.Fault.the-variants.{PastCount}
 use Rattle.play.specs.Scene.{Played, shown, latest}

@@ -7,7 +7,7 @@ use Rattle.std.specs.declared.result.Result.the-variants.{Ok, Err}
 use Rattle.span.specs.declared.Span.{Span}
 use Rattle.span.specs.Rate.{allowed}
 use Rattle.span.specs.Span.{isIn, widthOf, later, upto, ceiling}
-use Rattle.play.specs.declared.script.Settings.{Settings}
+use Rattle.script.specs.declared.Settings.{Settings}
 use Rattle.play.specs.declared.scene.Scene.{Scene}
 use Rattle.play.specs.declared.scene.Moment.{Moment}
 use Rattle.play.specs.declared.scene.Fault.{Fault}

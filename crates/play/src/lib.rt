@@ -5,12 +5,10 @@ ghost use Rattle.std.specs.Options.{mapped};
 ghost use Rattle.std.specs.Vec.{refused};
 ghost use Rattle.std.specs.declared.option.Option.the-variants.{None};
 ghost use Rattle.play.specs.Scene.{viewOf};
-ghost use Rattle.play.specs.Script.{statementOf};
+ghost use Rattle.script.specs.Script.{statementOf};
 ghost use Rattle.play.specs.Player.{Answers, AnswersLine, Follows, FollowsLine, Starts};
 
 pub mod scene;
-pub mod script;
-pub mod words;
 
 use scene::Fault;
 use scene::Moment;

@@ -2,10 +2,8 @@
 ghost use mathlib.Core.Path.{_≡_};
 ghost use Rattle.play.specs.Scene.{inRange, viewOf, seen, shown, began, passed};
 ghost use Rattle.play.specs.Plays.{Begins, Goes};
-use crate::script::Settings;
-use crate::words::Unread;
-use crate::words::UnreadDebug;
-use crate::words::UnreadPartialEq;
+use script::Settings;
+use script::words::Unread;
 use span::CEILING;
 use span::Span;
 use span::rate::Drift;
@@ -15,7 +13,7 @@ use std::fmt;
 const LATEST: u64 = 1 << 61;
 
 // Why a line of a script is refused: it can't be read; the settings don't come first, come again, or are out of range; the step lies outside the drift; true time would pass the ceiling, or the local clock its largest count.
-#[derive(Clone, Copy, PartialEq, Eq, Debug)]
+#[derive(Clone, Copy)]
 pub enum Fault {
     Unread(Unread),
     NoSettings,
@@ -27,7 +25,7 @@ pub enum Fault {
 }
 
 // What is shown of a moment: the local clock's count, true time, whether it was said, and how wide what is said is.
-#[derive(Clone, Copy, PartialEq, Eq, Debug)]
+#[derive(Clone, Copy)]
 pub struct Moment {
     pub count: u64,
     pub truth: u64,

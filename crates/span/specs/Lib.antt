@@ -3,3 +3,5 @@ pub mod Span
 pub mod World
 pub mod Exact
 pub mod Cases
+pub mod Model
+pub mod Known

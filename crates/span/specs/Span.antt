@@ -28,10 +28,14 @@ span lo hi = cond (leb lo hi) (Between lo hi) Empty
 abbrev pub upto : ℕ → Span
 upto latest = Between 0 (min latest ceiling)
 
--- n ticks later: the lower end has risen by the least, the upper by the most, but not past the ceiling
+-- moved on: the lower end rises by the least, the upper by the most, but not past the ceiling
+abbrev pub moved : ℕ → ℕ → Span → Span
+moved a e (Between lo hi) = cond (leb lo hi) (span (lo + a) (min (hi + e) ceiling)) Empty
+moved a e Empty = Empty
+
+-- n ticks later
 abbrev pub later : ℕ → ℕ → Span → Span
-later d n (Between lo hi) = cond (leb lo hi) (span (lo + least d n) (min (hi + most d n) ceiling)) Empty
-later d n Empty = Empty
+later d n s = moved (least d n) (most d n) s
 
 -- cut to the times that are at most t
 abbrev pub atMost : ℕ → Span → Span

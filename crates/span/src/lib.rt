@@ -1,7 +1,7 @@
 // Spans of times, and how they move on with the local clock and are cut by what is known.
 ghost use mathlib.Core.Path.{_≡_};
 ghost use Prim.Native.Nat.{_≤_};
-ghost use Rattle.span.specs.Span.{later, atMost, atLeast, isIn, span, upto, widthOf};
+ghost use Rattle.span.specs.Span.{moved, later, atMost, atLeast, isIn, span, upto, widthOf};
 ghost use Rattle.span.specs.Cases.{Worked};
 ghost use Rattle.span.specs.Exact.{StepExact, CutExact};
 
@@ -10,6 +10,7 @@ pub mod rate;
 mod tests;
 
 use rate::Drift;
+use rate::Stride;
 
 // No true time is later than this, in microseconds.
 pub const CEILING: u64 = 1 << 62;
@@ -40,11 +41,9 @@ impl Span {
         Span::Between(0, latest.min(CEILING))
     }
 
-    // Where true time can be, `ticks` of the local clock after it was in this span.
-    pub fn later(self, drift: Drift, ticks: u64) -> Span
-        ensures value { λ r. ⌜ r ≡ later (drift .millionths) ticks self ⌝ }
-        ensures exact { λ r. ⌜ StepExact (drift .millionths) ticks self r ⌝ }
-        ensures worked { λ _. ⌜ Worked ⌝ }
+    // Its times moved on by a stride.
+    pub fn moved(self, stride: Stride) -> Span
+        ensures value { λ r. ⌜ r ≡ moved (stride .least) (stride .most) self ⌝ }
     {
         let Span::Between(lo, hi) = self else {
             return Span::Empty;
@@ -52,9 +51,19 @@ impl Span {
         if hi < lo {
             return Span::Empty;
         }
-        let lo = lo.saturating_add(drift.least(ticks));
-        let hi = hi.saturating_add(drift.most(ticks)).min(CEILING);
-        Span::new(lo, hi)
+        Span::new(
+            lo.saturating_add(stride.least),
+            hi.saturating_add(stride.most).min(CEILING),
+        )
+    }
+
+    // Where true time can be, `ticks` of the local clock after it was in this span.
+    pub fn later(self, drift: Drift, ticks: u64) -> Span
+        ensures value { λ r. ⌜ r ≡ later (drift .millionths) ticks self ⌝ }
+        ensures exact { λ r. ⌜ StepExact (drift .millionths) ticks self r ⌝ }
+        ensures worked { λ _. ⌜ Worked ⌝ }
+    {
+        self.moved(drift.stride(ticks))
     }
 
     // Those of its times that are at most `t`.

@@ -3,7 +3,7 @@ ghost use mathlib.Core.Path.{_≡_};
 ghost use Prim.Native.Nat.{ℕ, _+_, _-_, _^_, _≤_, _<_, min};
 ghost use Rattle.std.specs.Options.{Cases};
 ghost use Rattle.std.specs.Orderings.{Decides};
-ghost use Rattle.span.specs.Rate.{Fits, allowed, least, most, share};
+ghost use Rattle.span.specs.Rate.{Fits, Strides, allowed, least, most, share};
 
 const MILLION: u64 = 1_000_000;
 
@@ -12,6 +12,13 @@ const MILLION: u64 = 1_000_000;
 pub struct Drift {
     millionths: u64,
     ghost small: { millionths ≤ 1000 },
+}
+
+// How far true time goes on while the local clock counts some ticks: at least, and at most.
+#[derive(Clone, Copy)]
+pub struct Stride {
+    pub least: u64,
+    pub most: u64,
 }
 
 impl Drift {
@@ -45,6 +52,16 @@ impl Drift {
         ensures value { λ r. ⌜ r ≡ min (most (self .millionths) ticks) (2 ^ 64 - 1) ⌝ }
     {
         ticks.saturating_add(self.share(ticks))
+    }
+
+    // Both, for so many ticks.
+    pub fn stride(self, ticks: u64) -> Stride
+        ensures value { λ r. ⌜ Strides (self .millionths) ticks (r .least) (r .most) ⌝ }
+    {
+        Stride {
+            least: self.least(ticks),
+            most: self.most(ticks),
+        }
     }
 
     // Whether true time can go on by `step` in so many ticks.

@@ -1,8 +1,8 @@
 use mathlib.Core.Path.{_≡_, refl, sym, subst}
 use Rattle.std.specs.declared.option.Option.{Option}
 use Rattle.std.specs.declared.result.Result.{Result}
-use Rattle.play.specs.declared.script.Statement.{Statement}
-use Rattle.play.specs.declared.script.Statement.the-variants.{Nothing, Begin, Pass}
+use Rattle.script.specs.declared.Statement.{Statement}
+use Rattle.script.specs.declared.Statement.the-variants.{Nothing, Begin, Pass}
 use Rattle.play.specs.declared.scene.Moment.{Moment}
 use Rattle.play.specs.declared.scene.Fault.{Fault}
 use Rattle.play.specs.Scene.{Played}

@@ -1,9 +1,8 @@
-use mathlib.Core.Path.{_≡_, refl, sym, ap, subst, _∙_}
-use native.Mathlib.Omega.{arith}
+use mathlib.Core.Path.{_≡_, refl, sym, subst, _∙_}
 use Rattle.span.specs.Cases.{Worked}
 use Rattle.span.specs.Span.{later}
 use Rattle.span.specs.Exact.{StepExact}
-use Rattle.span.proofs.Steps.{later-held, step-exact}
+use Rattle.span.proofs.Steps.{stride-later, step-exact}
 use Rattle.span.proofs.Span.later.Needs as need
 
 worked-cases : Worked
@@ -14,8 +13,5 @@ pub returns : need.returns
 returns c =
     let d = c .args .drift .millionths in
     let n = c .args .ticks in
-    let is : c .new .result ≡ later d n (c .args .self) =
-    c .new .ensures .value
-    ∙ later-held d n (c .in-Between .lo) (c .in-Between .hi) _ _ (omega arith) (omega arith) (omega arith)
-    ∙ ap (later d n) (sym (c .in-Between .is)) in
+    let is : c .moved .result ≡ later d n (c .args .self) = c .moved .ensures .value ∙ stride-later d n _ _ (c .args .self) (c .stride .ensures .value) in
     record { worked = worked-cases; value = is; exact = subst (StepExact d n (c .args .self)) (sym is) (step-exact d n (c .args .self)) }

@@ -1,0 +1,1 @@
+// Spans for every choice of faulty servers.
