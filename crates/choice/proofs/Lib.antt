@@ -1,3 +1,5 @@
 pub mod Bits
 pub mod Whole
 pub mod Fuller
+pub mod Rows
+pub mod Standing

@@ -1,3 +1,6 @@
 pub mod Choice
 pub mod Said
 pub mod Promise
+pub mod Row
+pub mod Moves
+pub mod Stands

@@ -1,1 +1,2 @@
-// Spans for every choice of faulty servers.
+// Spans for every choice of faulty servers, what may be by them, and who must be faulty.
+pub mod row;

@@ -1,7 +1,7 @@
 // Spans of times, and how they move on with the local clock and are cut by what is known.
 ghost use mathlib.Core.Path.{_≡_};
 ghost use Prim.Native.Nat.{_≤_};
-ghost use Rattle.span.specs.Span.{moved, later, atMost, atLeast, isIn, span, upto, widthOf};
+ghost use Rattle.span.specs.Span.{moved, later, atMost, atLeast, isIn, holdsNone, span, upto, widthOf};
 ghost use Rattle.span.specs.Cases.{Worked};
 ghost use Rattle.span.specs.Exact.{StepExact, CutExact};
 
@@ -95,6 +95,16 @@ impl Span {
         match self {
             Span::Between(lo, hi) => lo <= t && t <= hi,
             Span::Empty => false,
+        }
+    }
+
+    // Whether it has no time.
+    pub fn is_empty(self) -> bool
+        ensures value { λ r. ⌜ r ≡ holdsNone self ⌝ }
+    {
+        match self {
+            Span::Between(lo, hi) => hi < lo,
+            Span::Empty => true,
         }
     }
 
