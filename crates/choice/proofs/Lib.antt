@@ -3,3 +3,5 @@ pub mod Whole
 pub mod Fuller
 pub mod Rows
 pub mod Standing
+pub mod Joins
+pub mod Sorts

@@ -36,9 +36,9 @@ over-step f k s v h e t w =
     let one = set s (2 * k) (lowOf v) in
     let long = length-set s (2 * k) (lowOf v) in
     let front : take (2 * k + 1 + 1) (set one (2 * k + 1) (highOf v)) ≡ (take (2 * k) s ++ lowOf v ∷ []) ++ highOf v ∷ [] =
-        take-more-set one (2 * k + 1) (highOf v) (omega arith) ∙ ap (λ x. x ++ highOf v ∷ []) (take-more-set s (2 * k) (lowOf v) (omega arith)) in
+    take-more-set one (2 * k + 1) (highOf v) (omega arith) ∙ ap (λ x. x ++ highOf v ∷ []) (take-more-set s (2 * k) (lowOf v) (omega arith)) in
     let back : drop (2 * k + 1 + 1) (set one (2 * k + 1) (highOf v)) ≡ drop (2 * k + 1 + 1) s =
-        drop-set-lt (2 * k + 1 + 1) one (2 * k + 1) (highOf v) (omega arith) ∙ drop-set-lt (2 * k + 1 + 1) s (2 * k) (lowOf v) (omega arith) in
+    drop-set-lt (2 * k + 1 + 1) one (2 * k + 1) (highOf v) (omega arith) ∙ drop-set-lt (2 * k + 1 + 1) s (2 * k) (lowOf v) (omega arith) in
     let rest = overRow f (k + 1) (drop (2 * k + 1 + 1) s) in
     ap (λ n. take n t ++ overRow f (k + 1) (drop n t)) next
     ∙ ap (λ x. take (2 * k + 1 + 1) x ++ overRow f (k + 1) (drop (2 * k + 1 + 1) x)) w

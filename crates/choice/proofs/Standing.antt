@@ -67,9 +67,9 @@ module _ (f : ℕ → Span) (kept : (c : ℕ) → Kept (f c)) where
       (here (holdsNone (f c)) refl)
       (of-named v cs (λ k l e. h (suc k) (omega arith) e))
     where
-    here : (b : Bool) → holdsNone (f c) ≡ b → (bit c v || holdsNone (span (lowOf (f c)) (highOf (f c)))) ≡ true
-    here true e = or-right (bit c v) (holdsNone (span (lowOf (f c)) (highOf (f c)))) (ap holdsNone (kept c) ∙ e)
-    here false e = or-left (bit c v) (holdsNone (span (lowOf (f c)) (highOf (f c)))) (h 0 (omega arith) e)
+      here : (b : Bool) → holdsNone (f c) ≡ b → (bit c v || holdsNone (span (lowOf (f c)) (highOf (f c)))) ≡ true
+      here true e = or-right (bit c v) (holdsNone (span (lowOf (f c)) (highOf (f c)))) (ap holdsNone (kept c) ∙ e)
+      here false e = or-left (bit c v) (holdsNone (span (lowOf (f c)) (highOf (f c)))) (h 0 (omega arith) e)
 
 -- a full choice is allowed
 full-allowed : (r : Rules) (c : ℕ) → Full r c → Allowed r c
@@ -111,10 +111,10 @@ module _ (r : Rules) (es : List Event) (cs row : List ℕ) (s : Stands r es cs r
   named-row v = (
     λ h.
         let all : (c : ℕ) → Full r c → holdsNone (spanOf r (bit c) es) ≡ false → bit c v ≡ true =
-            λ c g e.
-                let k = s .choices .all c g in
-                subst (λ c. bit c v ≡ true) (k .2)
-                (named-of (λ c. spanOf r (bit c) es) kept-each v cs (ap (namedBy v cs) (sym (s .spans)) ∙ h) (k .0) (k .1) (ap (λ c. holdsNone (spanOf r (bit c) es)) (k .2) ∙ e)) in
+        λ c g e.
+        let k = s .choices .all c g in
+        subst (λ c. bit c v ≡ true) (k .2)
+        (named-of (λ c. spanOf r (bit c) es) kept-each v cs (ap (namedBy v cs) (sym (s .spans)) ∙ h) (k .0) (k .1) (ap (λ c. holdsNone (spanOf r (bit c) es)) (k .2) ∙ e)) in
         exact-over-all r es .named v (full-say r (s .choices .fewer) es .names v all),
     λ f.
         ap (namedBy v cs) (s .spans)

@@ -4,3 +4,4 @@ pub mod Promise
 pub mod Row
 pub mod Moves
 pub mod Stands
+pub mod Runs

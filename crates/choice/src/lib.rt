@@ -1,2 +1,3 @@
 // Spans for every choice of faulty servers, what may be by them, and who must be faulty.
 pub mod row;
+pub mod runs;

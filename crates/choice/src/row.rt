@@ -62,8 +62,16 @@ fn cut(span: Span, choice: u16, claim: Claim) -> Span
     ensures value { λ r. ⌜ r ≡ cutBy (bit choice) (claimOf claim) span ⌝ }
 {
     match claim {
-        Claim::AtMost(server, time) => if is_faulty(choice, server) { span } else { span.at_most(time) },
-        Claim::AtLeast(server, time) => if is_faulty(choice, server) { span } else { span.at_least(time) },
+        Claim::AtMost(server, time) => if is_faulty(choice, server) {
+            span
+        } else {
+            span.at_most(time)
+        },
+        Claim::AtLeast(server, time) => if is_faulty(choice, server) {
+            span
+        } else {
+            span.at_least(time)
+        },
     }
 }
 
