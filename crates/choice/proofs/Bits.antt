@@ -12,7 +12,7 @@ use Rattle.std.proofs.shelf.Ways.{tells}
 use Rattle.std.proofs.shelf.Tests.{cases-lt}
 use mathlib.Core.Logic.{⊎-elim}
 use Rattle.span.specs.World.{Faulty, howMany}
-use Rattle.choice.specs.Choice.{bit}
+use Rattle.choice.specs.Choice.{bit, choiceOf}
 
 -- the bits of c from the second on are those of its half
 bit-half : (c v : ℕ) → bit c (suc v) ≡ bit (c / 2) v
@@ -57,10 +57,6 @@ ones-many (suc n) c h =
     ∙ sym (many-first (bit c) n)
 
 -- the choice of a set
-unfoldable pub choiceOf : Faulty → ℕ → ℕ
-choiceOf p zero = 0
-choiceOf p (suc n) = cond (p 0) 1 0 + choiceOf (λ v. p (suc v)) n * 2
-
 first-bit : (b : Bool) (x : ℕ) → ((cond b 1 0 + x * 2) % 2 ≡ cond b 1 0) × ((cond b 1 0 + x * 2) / 2 ≡ x)
 first-bit true x = (omega arith, omega arith)
 first-bit false x = (omega arith, omega arith)
@@ -87,3 +83,15 @@ choice-bit p (suc n) (suc v) h =
 
 pub choice-ones : (p : Faulty) (n : ℕ) → ones (choiceOf p n) ≡ howMany p n
 choice-ones p n = ones-many n (choiceOf p n) (choice-below p n) ∙ many-same (bit (choiceOf p n)) p n (λ v h. choice-bit p n v h)
+
+-- one server more: its bit is the next
+pub choice-top : (p : Faulty) (n : ℕ) → choiceOf p (suc n) ≡ choiceOf p n + cond (p n) (2 ^ n) 0
+unfolding choiceOf
+choice-top p zero = ap (λ x. cond (p 0) 1 0 + x) (omega arith) ∙ first (p 0) where
+  first : (b : Bool) → cond b 1 0 + 0 ≡ 0 + cond b (2 ^ 0) 0
+  first true = refl
+  first false = refl
+choice-top p (suc n) = go (p (suc n)) (choice-top (λ v. p (suc v)) n) where
+  go : (b : Bool) → choiceOf (λ v. p (suc v)) (suc n) ≡ choiceOf (λ v. p (suc v)) n + cond b (2 ^ n) 0 → cond (p 0) 1 0 + choiceOf (λ v. p (suc v)) (suc n) * 2 ≡ cond (p 0) 1 0 + choiceOf (λ v. p (suc v)) n * 2 + cond b (2 ^ suc n) 0
+  go true h = omega (arith, pow-suc 2 n)
+  go false h = omega arith

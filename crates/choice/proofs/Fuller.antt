@@ -13,10 +13,10 @@ use Rattle.span.specs.World.{Rules, Event, Faulty, howMany}
 use Rattle.span.specs.Span.{isIn, holdsNone}
 use Rattle.span.specs.Model.{spanOf}
 use Rattle.span.proofs.Paths.{more-faulty-wider}
-use Rattle.choice.specs.Choice.{bit, Allowed}
+use Rattle.choice.specs.Choice.{bit, Allowed, choiceOf}
 use Rattle.choice.specs.Said.{May, Named}
 use Rattle.choice.specs.Promise.{Full, FullSay, FullSayAll}
-use Rattle.choice.proofs.Bits.{bit-there, ones-many, many-same, choiceOf, choice-below, choice-bit, choice-ones}
+use Rattle.choice.proofs.Bits.{bit-there, ones-many, many-same, choice-below, choice-bit, choice-ones}
 use Rattle.choice.proofs.Whole.{has-some, some-has}
 
 -- the set with one server more

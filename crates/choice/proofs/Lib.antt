@@ -5,3 +5,4 @@ pub mod Rows
 pub mod Standing
 pub mod Joins
 pub mod Sorts
+pub mod Chosen

@@ -3,7 +3,7 @@ use mathlib.Core.Path.{_≡_, refl, sym, ap, ap₂, subst, _∙_}
 use mathlib.Core.Bool.{Bool, true, false, not, cond, _&&_, _||_}
 use mathlib.Core.List.{List, [], _∷_}
 use mathlib.Core.Logic.{⊎-elim}
-use Prim.Native.Nat.{ℕ, zero, suc, _+_, _<_, _≤_}
+use Prim.Native.Nat.{ℕ, zero, suc, _+_, _^_, _<_, _≤_}
 use native.Mathlib.Omega.{arith}
 use lib.Count.{ones}
 use lib.Dec.{T}
@@ -14,11 +14,12 @@ use Rattle.span.specs.declared.Span.{Span}
 use Rattle.span.specs.World.{Rules, Event, World}
 use Rattle.span.specs.Span.{isIn, holdsNone, span}
 use Rattle.span.specs.Model.{moments, through, spanOf}
-use Rattle.choice.specs.Choice.{bit, Allowed}
+use Rattle.choice.specs.Choice.{bit, Allowed, choiceOf}
 use Rattle.choice.specs.Said.{May, Named}
 use Rattle.choice.specs.Promise.{Full, FaultyInAll, NoWorld}
 use Rattle.choice.specs.Row.{lowOf, highOf, rowOf, rowThrough, anySpan, hasTimes, namedBy}
-use Rattle.choice.specs.Stands.{AllFull, Stands, MayExact, LeftExact, NamedExact}
+use Rattle.choice.specs.Stands.{AllFull, Stands, MayExact, LeftExact, NamedExact, NamesExact}
+use Rattle.choice.proofs.Bits.{bit-there, choice-below, choice-bit}
 use Rattle.choice.proofs.Whole.{has-some, some-has, world-may, may-world, choice-world, exact-over-all}
 use Rattle.choice.proofs.Fuller.{full-say}
 use Rattle.choice.proofs.Rows.{Kept, kept-through}
@@ -129,3 +130,9 @@ left-exact row b e r es cs s = subst (λ x. (x ≡ true → (t : ℕ) × World r
 
 pub named-exact : (v : ℕ) (cs row : List ℕ) (b : Bool) → b ≡ namedBy v cs row → NamedExact v cs row b
 named-exact v cs row b e r es s = subst (λ x. Decides x (FaultyInAll r es v)) (sym e) (named-row r es cs row s v)
+
+pub names-exact : (n : ℕ) (cs row : List ℕ) (set : ℕ) → set ≡ choiceOf (λ v. namedBy v cs row) n → NamesExact n cs row set
+names-exact n cs row set e r es s v = (
+  λ h. subst (λ b. Decides b (FaultyInAll r es v)) (sym (ap (λ c. bit c v) e ∙ choice-bit (λ v. namedBy v cs row) n v h)) (named-row r es cs row s v),
+  λ h. bit-there set n v (subst (λ c. c < 2 ^ n) (sym e) (choice-below (λ v. namedBy v cs row) n)) h,
+)

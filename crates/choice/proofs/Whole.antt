@@ -15,10 +15,10 @@ use Rattle.span.specs.World.{Rules, Event, World, Faulty, howMany}
 use Rattle.span.specs.Span.{isIn, holdsNone}
 use Rattle.span.specs.Model.{spanOf}
 use Rattle.span.proofs.Paths.{known-exact, more-faulty-wider}
-use Rattle.choice.specs.Choice.{bit, Allowed}
+use Rattle.choice.specs.Choice.{bit, Allowed, choiceOf}
 use Rattle.choice.specs.Said.{May, Named, NoneLeft}
 use Rattle.choice.specs.Promise.{FaultyInAll, NoWorld, Exact, ExactOverAll, SaysNoLess}
-use Rattle.choice.proofs.Bits.{bit-there, ones-many, choiceOf, choice-below, choice-bit, choice-ones}
+use Rattle.choice.proofs.Bits.{bit-there, ones-many, choice-below, choice-bit, choice-ones}
 
 -- a span that holds a time is not empty, and one that is not empty holds one
 pub has-some : (s : Span) (t : ℕ) → T (isIn t s) → holdsNone s ≡ false

@@ -1,13 +1,13 @@
 // A row of spans, one for each choice of faulty servers: the two ends of each beside each other in a lent slice.
 ghost use mathlib.Core.Bool.{_||_};
 ghost use mathlib.Core.Path.{_≡_};
-ghost use Prim.Native.Nat.{_+_, _*_, _<_};
+ghost use Prim.Native.Nat.{_+_, _*_, _<_, _≤_};
 ghost use lib.ListN.{length, set};
 ghost use Rattle.span.specs.Span.{isIn, holdsNone, moved};
 ghost use Rattle.span.specs.Model.{cutBy};
-ghost use Rattle.choice.specs.Choice.{bit};
+ghost use Rattle.choice.specs.Choice.{bit, choiceOf};
 ghost use Rattle.choice.specs.Row.{lowOf, highOf, spanAt, overRow, cutAt, anySpan, hasTimes, namedBy};
-ghost use Rattle.choice.specs.Stands.{MayExact, LeftExact, NamedExact};
+ghost use Rattle.choice.specs.Stands.{MayExact, LeftExact, NamedExact, NamesExact};
 ghost use Rattle.choice.specs.Moves.{claimOf, RowMoves, RowCuts};
 use span::Span;
 use span::rate::Stride;
@@ -131,6 +131,21 @@ pub fn is_named(row: &[u64], choices: &[u16], server: u8) -> bool
         if !is_silent(read(row, k), choices[k], server) {
             named = false;
             break 'choices;
+        }
+    }
+    named
+}
+
+// The servers that are faulty in every choice that has a span, as bits of a number.
+pub fn named(row: &[u64], choices: &[u16], servers: u8) -> u16
+    requires { ⌜ length (now row) ≡ 2 * length (now choices) ⌝ ∗ ⌜ servers ≤ 16 ⌝ }
+    ensures value { λ r. ⌜ r ≡ choiceOf (λ v. namedBy v (now (choices .entry)) (now (row .entry))) servers ⌝ }
+    ensures exact { λ r. ⌜ NamesExact servers (now (choices .entry)) (now (row .entry)) r ⌝ }
+{
+    let mut named = 0;
+    for server in 0..servers {
+        if is_named(row, choices, server) {
+            named |= 1 << server;
         }
     }
     named

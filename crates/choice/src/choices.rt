@@ -1,0 +1,26 @@
+// The choices of faulty servers: each a number whose bit `v` says that server `v` is assumed to be faulty.
+ghost use mathlib.Core.Path.{_≡_};
+ghost use Prim.Native.Nat.{_^_, _<_, _≤_};
+ghost use Rattle.std.specs.Of.Vec.{vec-items, vec-len};
+ghost use Rattle.std.specs.Vec.{made};
+ghost use Rattle.choice.specs.Choice.{chosen};
+ghost use Rattle.choice.specs.Stands.{AllChosen};
+use std::alloc::AllocError;
+use std::alloc::Global;
+
+// All choices of just `faulty` of the servers. A choice of fewer has a narrower span than one of these, so that nothing is lost without them.
+pub fn choices(heap: Global, servers: u8, faulty: u8) -> Result<Vec<u16>, AllocError>
+    requires { ⌜ servers ≤ 10 ⌝ }
+    ensures items { λ r. ⌜ made r (λ v. vec-items v ≡ chosen faulty (2 ^ servers)) ⌝ }
+    ensures all { λ r. ⌜ made r (λ v. AllChosen servers faulty (vec-items v)) ⌝ }
+    ensures few { λ r. ⌜ made r (λ v. faulty < servers → vec-len v ≤ 252) ⌝ }
+{
+    let mut all = Vec::new(heap);
+    let faulty = u32::from(faulty);
+    for choice in 0..1u16 << servers {
+        if choice.count_ones() == faulty {
+            all.push(choice)?;
+        }
+    }
+    Ok(all)
+}
