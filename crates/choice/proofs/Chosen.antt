@@ -39,12 +39,12 @@ chosen-full f (suc c) =
     (λ e. subst (Right f (suc c)) (sym (chosen-leaves f c e)) (λ k h. let r = chosen-full f c k h in (omega (arith, r .0), r .1)))
     (cases-eq (ones c) f)
   where
-  one-more : (cs : List ℕ) → Right f c cs → ones c ≡ f → Right f (suc c) (cs ++ c ∷ [])
-  one-more cs right e k h =
-      ⊎-elim
-      (λ l. let r = right k l in let g = getD-append-left cs (c ∷ []) 0 k l in (omega (arith, r .0, g), ap ones g ∙ r .1))
-      (λ l. let g = getD-push cs c 0 k (omega (arith, length-push cs c)) in (omega (arith, g), ap ones g ∙ e))
-      (cases-lt k (length cs))
+    one-more : (cs : List ℕ) → Right f c cs → ones c ≡ f → Right f (suc c) (cs ++ c ∷ [])
+    one-more cs right e k h =
+        ⊎-elim
+        (λ l. let r = right k l in let g = getD-append-left cs (c ∷ []) 0 k l in (omega (arith, r .0, g), ap ones g ∙ r .1))
+        (λ l. let g = getD-push cs c 0 k (omega (arith, length-push cs c)) in (omega (arith, g), ap ones g ∙ e))
+        (cases-lt k (length cs))
 
 -- and each such number is among them
 abbrev There : ℕ → List ℕ → Type 0
@@ -58,14 +58,15 @@ chosen-all f (suc m) c h e =
     (λ apart. still (cases-eq (ones m) f) (chosen-all f m c (omega arith) e))
     (cases-eq c m)
   where
-  last : (cs : List ℕ) → There c (cs ++ c ∷ [])
-  last cs = (length cs, omega (arith, length-push cs c), getD-push cs c 0 (length cs) refl)
-  still : (ones m ≡ f) ⊎ (ones m ≡ f → ⊥) → There c (chosen f m) → There c (chosen f (suc m))
-  still d t =
-      ⊎-elim
-      (λ e. subst (There c) (sym (chosen-takes f m e)) (t .0, omega (arith, length-push (chosen f m) m, t .1), getD-append-left (chosen f m) (m ∷ []) 0 (t .0) (t .1) ∙ t .2))
-      (λ e. subst (There c) (sym (chosen-leaves f m e)) t)
-      d
+    last : (cs : List ℕ) → There c (cs ++ c ∷ [])
+    last cs = (length cs, omega (arith, length-push cs c), getD-push cs c 0 (length cs) refl)
+
+    still : (ones m ≡ f) ⊎ (ones m ≡ f → ⊥) → There c (chosen f m) → There c (chosen f (suc m))
+    still d t =
+        ⊎-elim
+        (λ e. subst (There c) (sym (chosen-takes f m e)) (t .0, omega (arith, length-push (chosen f m) m, t .1), getD-append-left (chosen f m) (m ∷ []) 0 (t .0) (t .1) ∙ t .2))
+        (λ e. subst (There c) (sym (chosen-leaves f m e)) t)
+        d
 
 pub all-full : (r : Rules) (n f : ℕ) → r .servers ≡ n → r .faulty ≡ f → f < n → AllFull r (chosen f (2 ^ n))
 all-full r n f s q l = record {
@@ -114,8 +115,8 @@ among-top n f (suc k) h =
     ap₂ (λ x y. x + cond y 1 0) (among-top n f k (omega arith))
     (ap (λ x. eqb x (suc f)) (top-bit n k (omega arith)) ∙ shift (ones k) f ∙ ap (λ x. eqb (ones x) f) (sym (zero-add k)))
   where
-  shift : (x f : ℕ) → eqb (1 + x) (suc f) ≡ eqb x f
-  shift x f = grind (arith, tells)
+    shift : (x f : ℕ) → eqb (1 + x) (suc f) ≡ eqb x f
+    shift x f = grind (arith, tells)
 
 none-top : (n k : ℕ) → k ≤ 2 ^ n → among (2 ^ n) 0 k ≡ 0
 unfolding among
@@ -123,8 +124,8 @@ none-top n zero h = refl
 none-top n (suc k) h =
     ap₂ (λ x y. x + cond y 1 0) (none-top n k (omega arith)) (ap (λ x. eqb x 0) (top-bit n k (omega arith)) ∙ never (ones k))
   where
-  never : (x : ℕ) → eqb (1 + x) 0 ≡ false
-  never x = grind (arith, tells)
+    never : (x : ℕ) → eqb (1 + x) 0 ≡ false
+    never x = grind (arith, tells)
 
 double : (n : ℕ) → 2 ^ suc n ≡ 2 ^ n + 2 ^ n
 double n = omega (arith, pow-suc 2 n)

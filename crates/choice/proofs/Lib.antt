@@ -6,3 +6,4 @@ pub mod Standing
 pub mod Joins
 pub mod Sorts
 pub mod Chosen
+pub mod Table

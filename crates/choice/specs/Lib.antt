@@ -5,3 +5,4 @@ pub mod Row
 pub mod Moves
 pub mod Stands
 pub mod Runs
+pub mod Cases

@@ -1,10 +1,14 @@
 // The choices of faulty servers: each a number whose bit `v` says that server `v` is assumed to be faulty.
 ghost use mathlib.Core.Path.{_≡_};
-ghost use Prim.Native.Nat.{_^_, _<_, _≤_};
+ghost use mathlib.Core.List.{List};
+ghost use Prim.Native.Nat.{ℕ, _^_, _<_, _≤_};
 ghost use Rattle.std.specs.Of.Vec.{vec-items, vec-len};
 ghost use Rattle.std.specs.Vec.{made};
 ghost use Rattle.choice.specs.Choice.{chosen};
+ghost use Rattle.choice.specs.Cases.{Worked};
+ghost use Rattle.choice.specs.Promise.{SaysNoLess, Theorems};
 ghost use Rattle.choice.specs.Stands.{AllChosen};
+ghost use Rattle.span.specs.World.{Event};
 use std::alloc::AllocError;
 use std::alloc::Global;
 
@@ -13,6 +17,8 @@ pub fn choices(heap: Global, servers: u8, faulty: u8) -> Result<Vec<u16>, AllocE
     requires { ⌜ servers ≤ 10 ⌝ }
     ensures items { λ r. ⌜ made r (λ v. vec-items v ≡ chosen faulty (2 ^ servers)) ⌝ }
     ensures all { λ r. ⌜ made r (λ v. AllChosen servers faulty (vec-items v)) ⌝ }
+    ensures theorems { λ _. ⌜ Theorems ⌝ }
+    ensures worked { λ _. ⌜ Worked ⌝ }
     ensures few { λ r. ⌜ made r (λ v. faulty < servers → vec-len v ≤ 252) ⌝ }
 {
     let mut all = Vec::new(heap);
@@ -23,4 +29,18 @@ pub fn choices(heap: Global, servers: u8, faulty: u8) -> Result<Vec<u16>, AllocE
         }
     }
     Ok(all)
+}
+
+// Any rule whatever by which somebody might say times of a run of events, and blame servers.
+pub trait Rule {
+    ghost says: { List Event → ℕ → Type 0 };
+
+    ghost blames: { List Event → ℕ → Type 0 };
+}
+
+// No rule that is never wrong says less than what may be, or blames a server that is not named.
+pub fn no_rule_says_less<R: Rule>() -> bool
+    ensures least { λ _. ⌜ SaysNoLess (R·Rule .says) (R·Rule .blames) ⌝ }
+{
+    true
 }

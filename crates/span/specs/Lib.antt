@@ -2,6 +2,5 @@ pub mod Rate
 pub mod Span
 pub mod World
 pub mod Exact
-pub mod Cases
 pub mod Model
 pub mod Known

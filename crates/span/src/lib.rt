@@ -2,7 +2,6 @@
 ghost use mathlib.Core.Path.{_≡_};
 ghost use Prim.Native.Nat.{_≤_};
 ghost use Rattle.span.specs.Span.{moved, later, atMost, atLeast, isIn, holdsNone, span, upto, widthOf};
-ghost use Rattle.span.specs.Cases.{Worked};
 ghost use Rattle.span.specs.Exact.{StepExact, CutExact};
 
 pub mod rate;
@@ -61,7 +60,6 @@ impl Span {
     pub fn later(self, drift: Drift, ticks: u64) -> Span
         ensures value { λ r. ⌜ r ≡ later (drift .millionths) ticks self ⌝ }
         ensures exact { λ r. ⌜ StepExact (drift .millionths) ticks self r ⌝ }
-        ensures worked { λ _. ⌜ Worked ⌝ }
     {
         self.moved(drift.stride(ticks))
     }

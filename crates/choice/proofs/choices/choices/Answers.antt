@@ -8,8 +8,11 @@ use Rattle.std.proofs.Told.{chosen}
 use Rattle.std.specs.Of.Vec.{vec-items}
 use Rattle.std.specs.Results.{isOk}
 use Rattle.std.proofs.shelf.Bits.{one-shl}
+use Rattle.std.proofs.shelf.Results.{made-from-err}
 use Rattle.choice.specs.Choice as choice
 use Rattle.choice.specs.Stands.{AllChosen, AllFull}
+use Rattle.choice.proofs.Table.{worked}
+use Rattle.choice.proofs.Fuller.{theorems}
 use Rattle.choice.proofs.Chosen.{chosen-takes, chosen-leaves, all-full, chosen-few}
 use Rattle.choice.proofs.choices.choices.Needs as need
 use Rattle.choice.proofs.choices.choices.Needs.{then-choice-faulty·in-Continue-push, else-choice-faulty}
@@ -23,13 +26,13 @@ loop-choice-again c =
     let f = c .from-faulty .result in
     let k = c .loop-choice .choice in
     elim (c .if-choice-faulty .came) [
-      then-choice-faulty·in-Continue-push w ↦
+      | then-choice-faulty·in-Continue-push w ↦
           ap vec-items (w .all-is)
           ∙ chosen _ _ _ _ (w .push .ensures .items) (ap isOk (w .in-Continue-push .was tt))
           ∙ ap (λ x. x ++ k ∷ []) (c .loop-choice .inv)
           ∙ sym (chosen-takes f k (w .if-choice-faulty .taken))
           ∙ ap (choice.chosen f) (sym (add-one k))
-    | else-choice-faulty w ↦
+      | else-choice-faulty w ↦
           ap vec-items (w .all-is)
           ∙ c .loop-choice .inv
           ∙ sym (chosen-leaves f k (w .if-choice-faulty .left))
@@ -46,5 +49,18 @@ returns c =
     record {
       items = items;
       all = λ r s q l. subst (AllFull r) (sym items) (all-full r n f s q l);
+      theorems = theorems;
+      worked = worked;
       few = λ l. omega (arith, c .loop-choice .all .ok .0, ap length items, chosen-few n f (c .pre) l);
+    }
+
+pub returns-in-Break-push : need.returns-in-Break-push
+returns-in-Break-push c =
+    let none = c .from-residual .ensures .0 in
+    record {
+      items = made-from-err (c .from-residual .result) _ none;
+      all = made-from-err (c .from-residual .result) _ none;
+      theorems = theorems;
+      worked = worked;
+      few = made-from-err (c .from-residual .result) _ none;
     }

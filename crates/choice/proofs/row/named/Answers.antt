@@ -31,8 +31,8 @@ loop-server-again c =
     let p : Faulty = λ v. namedBy v (c .args .choices .now) (c .args .row .now) in
     let n = c .loop-server .server in
     elim (c .if-is-named .came) [
-      then-is-named w ↦ w .named-is ∙ ap (bitOr (c .loop-server .named)) (one-shl n 16 (omega (arith, c .pre))) ∙ ap (λ m. bitOr m (2 ^ n)) (c .loop-server .inv) ∙ with-bit p n ∙ next p n true (w .if-is-named .ensures tt .value)
-    | else-is-named w ↦ w .named-is ∙ c .loop-server .inv ∙ sym (omega arith) ∙ next p n false (w .if-is-named .ensures tt .value)
+      | then-is-named w ↦ w .named-is ∙ ap (bitOr (c .loop-server .named)) (one-shl n 16 (omega (arith, c .pre))) ∙ ap (λ m. bitOr m (2 ^ n)) (c .loop-server .inv) ∙ with-bit p n ∙ next p n true (w .if-is-named .ensures tt .value)
+      | else-is-named w ↦ w .named-is ∙ c .loop-server .inv ∙ sym (omega arith) ∙ next p n false (w .if-is-named .ensures tt .value)
     ]
 
 pub returns : need.returns
