@@ -8,13 +8,14 @@ use native.Mathlib.Omega.{arith}
 use lib.Dec.{leb}
 use lib.ListN.{length, getD, set, take, drop, length-drop}
 use Rattle.std.proofs.shelf.Lists.{length-set, drop-more, drop-all, take-more-set, drop-set-lt, at-drop-more}
-use Rattle.std.proofs.shelf.Tests.{le-leb, lt-leb, leb-true, leb-false}
+use Rattle.std.proofs.shelf.Tests.{le-leb, lt-leb, leb-true, leb-false, both-ways, and-parts, or-cases, or-left, or-right}
 use Rattle.std.proofs.shelf.Ways.{tells}
 use Rattle.span.specs.declared.Span.the-variants.{Between, Empty}
 use Rattle.span.specs.Span.{isIn}
+use Rattle.std.specs.declared.option.Option.the-variants.{Some}
 use Rattle.choice.specs.Row.{anySpan}
 use Rattle.choice.specs.declared.runs.Run.{Run}
-use Rattle.choice.specs.Runs.{inRun, inRuns, Ordered, Apart, runsIn, joinedTo, joined}
+use Rattle.choice.specs.Runs.{inRun, inRuns, Ordered, Apart, runsIn, joinedTo, joined, Bounds}
 
 abbrev pub none : Run
 none = record { lo = 0; hi = 0 }
@@ -135,3 +136,68 @@ runs-few (lo ∷ (hi ∷ rest)) = go (leb lo hi) (runs-few rest) where
   go : (b : Bool) → 2 * length (runsIn rest) ≤ length rest → 2 * length (cond b (record { lo = lo; hi = hi } ∷ runsIn rest) (runsIn rest)) ≤ suc (suc (length rest))
   go true h = omega arith
   go false h = omega arith
+
+-- Looking for a time run by run.
+pub in-hit : (t i : ℕ) (rs : List Run) → i < length rs → inRun t (getD rs i none) ≡ true → inRuns t (drop i rs) ≡ true
+unfolding inRuns
+in-hit t i rs h e = at-drop-more (inRuns t) rs i none h ∙ ap (λ b. b || inRuns t (drop (i + 1) rs)) e
+
+pub in-miss : (t i : ℕ) (rs : List Run) → i < length rs → inRun t (getD rs i none) ≡ false → inRuns t (drop i rs) ≡ inRuns t (drop (i + 1) rs)
+unfolding inRuns
+in-miss t i rs h e = at-drop-more (inRuns t) rs i none h ∙ ap (λ b. b || inRuns t (drop (i + 1) rs)) e
+
+pub in-end : (t i : ℕ) (rs : List Run) → length rs ≤ i → inRuns t (drop i rs) ≡ false
+unfolding inRuns
+in-end t i rs h = ap (inRuns t) (drop-all i rs h)
+
+-- The ends of runs that are apart bound all that they hold.
+abbrev lastHigh : Run → List Run → ℕ
+lastHigh r [] = r .hi
+lastHigh r (s ∷ ss) = lastHigh s ss
+
+last-is : (r : Run) (rs : List Run) → getD (r ∷ rs) (length rs) none .hi ≡ lastHigh r rs
+last-is r [] = refl
+last-is r (s ∷ ss) = last-is s ss
+
+last-high : (b : ℕ) (r : Run) (rs : List Run) → Apart b (r ∷ rs) → r .hi ≤ lastHigh r rs
+unfolding Apart
+last-high b r [] a = omega arith
+last-high b r (s ∷ ss) a = omega (arith, last-high (r .hi + 2) s ss (a .2), a .2 .0, a .2 .1)
+
+ends-in : (r : Run) → r .lo ≤ r .hi → (inRun (r .lo) r ≡ true) × (inRun (r .hi) r ≡ true)
+ends-in r h = (go (r .lo) (r .hi) h .0, go (r .lo) (r .hi) h .1) where
+  go : (x y : ℕ) → x ≤ y → ((leb x x && leb x y) ≡ true) × ((leb x y && leb y y) ≡ true)
+  go x y h = (grind (arith, tells), grind (arith, tells))
+
+last-in : (b : ℕ) (r : Run) (rs : List Run) → Apart b (r ∷ rs) → inRuns (lastHigh r rs) (r ∷ rs) ≡ true
+unfolding inRuns Apart
+last-in b r [] a = or-left (inRun (r .hi) r) false (ends-in r (a .1) .1)
+last-in b r (s ∷ ss) a = or-right (inRun (lastHigh s ss) r) (inRuns (lastHigh s ss) (s ∷ ss)) (last-in (r .hi + 2) s ss (a .2))
+
+in-run : (t : ℕ) (r : Run) → inRun t r ≡ true → (r .lo ≤ t) × (t ≤ r .hi)
+in-run t r h = let p = and-parts (leb (r .lo) t) (leb t (r .hi)) h in (leb-true _ _ (p .0), leb-true _ _ (p .1))
+
+all-within : (b : ℕ) (r : Run) (rs : List Run) → Apart b (r ∷ rs) → (t : ℕ) → inRuns t (r ∷ rs) ≡ true → (r .lo ≤ t) × (t ≤ lastHigh r rs)
+unfolding inRuns Apart
+all-within b r [] a t h = ⊎-elim (λ e. in-run t r e) (λ e. absurd (both-ways false refl e)) (or-cases (inRun t r) false h)
+all-within b r (s ∷ ss) a t h =
+    ⊎-elim
+    (λ e. let i = in-run t r e in (i .0, omega (arith, i .1, last-high b r (s ∷ ss) a)))
+    (λ e. let i = all-within (r .hi + 2) s ss (a .2) t e in (omega (arith, i .0, a .1, a .2 .0), i .1))
+    (or-cases (inRun t r) (inRuns t (s ∷ ss)) h)
+
+pub some-bounds : (rs : List Run) → Apart 0 rs → 0 < length rs → Bounds rs (Some (getD rs 0 none .lo, getD rs (length rs - 1) none .hi))
+unfolding inRuns Apart
+some-bounds [] a h = absurd (omega arith)
+some-bounds (r ∷ rs) a h =
+    let e : getD (r ∷ rs) (suc (length rs) - 1) none .hi ≡ lastHigh r rs = ap (λ i. getD (r ∷ rs) i none .hi) (omega arith) ∙ last-is r rs in
+    (
+      or-left (inRun (r .lo) r) (inRuns (r .lo) rs) (ends-in r (a .1) .0),
+      ap (λ x. inRuns x (r ∷ rs)) e ∙ last-in 0 r rs a,
+      λ t k. let w = all-within 0 r rs a t k in (w .0, subst (λ x. t ≤ x) (sym e) (w .1)),
+    )
+
+pub no-bounds : (rs : List Run) → length rs ≡ 0 → (t : ℕ) → inRuns t rs ≡ true → ⊥
+unfolding inRuns
+no-bounds [] h t e = both-ways false refl e
+no-bounds (r ∷ rs) h t e = absurd (omega arith)

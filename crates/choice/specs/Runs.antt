@@ -3,7 +3,10 @@ use mathlib.Core.Path.{_≡_}
 use mathlib.Core.Bool.{Bool, true, false, cond, _&&_, _||_}
 use mathlib.Core.List.{List, [], _∷_}
 use Prim.Native.Nat.{ℕ, _+_, _-_, _≤_, max}
-use lib.Dec.{leb}
+use lib.Dec.{leb, eqb}
+use lib.ListN.{length, getD}
+use Rattle.std.specs.declared.option.Option.{Option}
+use Rattle.std.specs.declared.option.Option.the-variants.{Some, None}
 use Rattle.span.specs.World.{Rules, Event, World}
 use Rattle.std.specs.Orderings.{Decides}
 use Rattle.std.specs.shelf.Lists.{All}
@@ -45,3 +48,12 @@ joinedTo r (s ∷ ss) = cond (leb (s .lo - r .hi) 1) (joinedTo (record { lo = r 
 unfoldable pub joined : List Run → List Run
 joined [] = []
 joined (r ∷ rs) = joinedTo r rs
+
+-- the ends of the first and the last run
+abbrev pub boundsOf : List Run → Option (ℕ × ℕ)
+boundsOf rs = cond (eqb (length rs) 0) None (Some (getD rs 0 (record { lo = 0; hi = 0 }) .lo, getD rs (length rs - 1) (record { lo = 0; hi = 0 }) .hi))
+
+-- they are the least and the greatest of all times in the runs; there is none if no time is
+abbrev pub Bounds : List Run → Option (ℕ × ℕ) → Type 0
+Bounds rs None = (t : ℕ) → inRuns t rs ≡ true → ⊥
+Bounds rs (Some b) = (inRuns (b .0) rs ≡ true) × (inRuns (b .1) rs ≡ true) × ((t : ℕ) → inRuns t rs ≡ true → (b .0 ≤ t) × (t ≤ b .1))

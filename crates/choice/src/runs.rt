@@ -5,13 +5,22 @@ ghost use Prim.Native.Nat.{ℕ, _+_, _*_, _<_, _≤_};
 ghost use lib.ListN.{length, take, drop};
 ghost use Rattle.span.specs.Span.{isIn};
 ghost use Rattle.choice.specs.Row.{anySpan};
-ghost use Rattle.choice.specs.Runs.{inRuns, Ordered, Apart, runsIn, joined, RunsExact};
+ghost use Rattle.choice.specs.Runs.{inRun, inRuns, Ordered, Apart, runsIn, joined, boundsOf, Bounds, RunsExact};
 
 // The times from `lo` to `hi`, both included.
 #[derive(Clone, Copy, PartialEq, Eq, PartialOrd, Ord)]
 pub struct Run {
     pub lo: u64,
     pub hi: u64,
+}
+
+impl Run {
+    // Whether a time is in the run.
+    fn holds(self, t: u64) -> bool
+        ensures value { λ r. ⌜ r ≡ inRun t self ⌝ }
+    {
+        self.lo <= t && t <= self.hi
+    }
 }
 
 // Puts the spans of a row that have times into the front of the room, in their order, and says how many they are.
@@ -76,4 +85,27 @@ pub fn union(row: &[u64], room: &mut [Run]) -> usize
 {
     let n = gather(row, room);
     tidy(&mut room[0..n])
+}
+
+// Whether a time is in one of the runs.
+pub fn contains(runs: &[Run], t: u64) -> bool
+    ensures value { λ r. ⌜ r ≡ inRuns t (now (runs .entry)) ⌝ }
+{
+    for run in runs {
+        if run.holds(t) {
+            return true;
+        }
+    }
+    false
+}
+
+// The least and the greatest time of the runs, if there is one.
+pub fn bounds(runs: &[Run]) -> Option<(u64, u64)>
+    ensures value { λ r. ⌜ r ≡ boundsOf (now (runs .entry)) ⌝ }
+    ensures exact { λ r. ⌜ (Apart 0 (now (runs .entry)) → Bounds (now (runs .entry)) r) ⌝ }
+{
+    if runs.is_empty() {
+        return None;
+    }
+    Some((runs[0].lo, runs[runs.len() - 1].hi))
 }
