@@ -20,7 +20,7 @@ use Rattle.choice.proofs.Bits.{bit-there, ones-many, many-same, choice-below, 
 use Rattle.choice.proofs.Whole.{has-some, some-has, exact-over-all, says-no-less}
 
 -- the set with one server more
-abbrev with-one : Faulty → ℕ → Faulty
+abbrev pub with-one : Faulty → ℕ → Faulty
 with-one who k v = who v || eqb v k
 
 -- a set that is not all has a server outside
@@ -36,14 +36,14 @@ or-false : (b c : Bool) → c ≡ false → (b || c) ≡ b
 or-false true c h = refl
 or-false false c h = h
 
-one-at : (who : Faulty) (k : ℕ) → with-one who k k ≡ true
+pub one-at : (who : Faulty) (k : ℕ) → with-one who k k ≡ true
 one-at who k = or-right (who k) (eqb k k) (eq-eqb k k refl)
 
-one-off : (who : Faulty) (k v : ℕ) → (v ≡ k → ⊥) → with-one who k v ≡ who v
+pub one-off : (who : Faulty) (k v : ℕ) → (v ≡ k → ⊥) → with-one who k v ≡ who v
 one-off who k v h = or-false (who v) (eqb v k) (ne-eqb v k h)
 
 -- one server more is one more, if it is there and was not in the set
-with-more : (who : Faulty) (k n : ℕ) → k < n → who k ≡ false → howMany (with-one who k) n ≡ howMany who n + 1
+pub with-more : (who : Faulty) (k n : ℕ) → k < n → who k ≡ false → howMany (with-one who k) n ≡ howMany who n + 1
 unfolding howMany
 with-more who k zero h e = absurd (omega arith)
 with-more who k (suc n) h e =

@@ -1,3 +1,2 @@
 pub mod Scene
 pub mod Plays
-pub mod Player

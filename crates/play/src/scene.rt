@@ -1,96 +1,113 @@
 // A world that is played, and what is said in it.
+ghost use mathlib.Core.Bool.{true};
+ghost use mathlib.Core.List.{List, [], _∷_};
+ghost use Prim.Native.Nat.{ℕ, _^_, _<_, _≤_};
+ghost use Rattle.span.specs.World.{Rules, Event};
+ghost use Rattle.choice.specs.Runs.{boundsOf};
+ghost use Rattle.choice.specs.Stands.{NamesExact};
 ghost use mathlib.Core.Path.{_≡_};
-ghost use Rattle.play.specs.Scene.{inRange, viewOf, seen, shown, began, passed};
-ghost use Rattle.play.specs.Plays.{Begins, Goes};
+ghost use Rattle.std.specs.Vec.{made, refused};
+ghost use Rattle.ledger.specs.Ledger.{shows};
+ghost use Rattle.play.specs.Scene.{viewOf, inRange, Answers, passFault, Passed, wordFault, replyFault, lieFault, NotBegun, SameLiars, Stayed, Lied, saidOf, wide, widthOf};
+ghost use Rattle.play.specs.Plays.{rulesOf, Plays, Heard, heardOf, LeadsOn};
+use crate::cast::Cast;
+use choice::runs::Run;
+use choice::runs::bounds;
+use choice::runs::contains;
+use ledger::Ledger;
 use script::Settings;
+use script::Word;
 use script::words::Unread;
 use span::CEILING;
-use span::Span;
 use span::rate::Drift;
-use std::fmt;
+use std::alloc::Global;
 
 // The latest that true time can be at the beginning.
 const LATEST: u64 = 1 << 61;
 
-// Why a line of a script is refused: it can't be read; the settings don't come first, come again, or are out of range; the step lies outside the drift; true time would pass the ceiling, or the local clock its largest count.
+// No reply's radius is larger.
+const WIDEST: u64 = 1 << 31;
+
+// Why a line of a script is refused.
 #[derive(Clone, Copy)]
 pub enum Fault {
+    // it can't be read
     Unread(Unread),
+    // the settings don't come first, come again, or are out of range
     NoSettings,
     SettingsAgain,
     SettingsRange,
+    // the step lies outside the drift, or passes the ceiling or the largest count
     OutsideDrift,
     PastCeiling,
     PastCount,
+    // there is no such server, or its word is out of range
+    NoServer,
+    WordRange,
+    // an honest server's word is not true, or more servers lie than may be faulty
+    NotTrue,
+    TooManyLie,
+    // there is no memory
+    NoMemory,
 }
 
-// What is shown of a moment: the local clock's count, true time, whether it was said, and how wide what is said is.
+// What is shown of a moment: the local clock's count, true time, whether it was said, how wide what is said is, and the named servers, as bits of a number.
 #[derive(Clone, Copy)]
 pub struct Moment {
     pub count: u64,
     pub truth: u64,
     pub said: bool,
     pub width: u64,
+    pub named: u16,
 }
 
-// A played world now: the local clock's drift and count, true time, and the times that are said.
-#[derive(Clone, Copy)]
+// How far the greatest time of the runs is from the least; 0 where there is none.
+fn width(runs: &[Run]) -> u64
+    ensures value { λ r. ⌜ r ≡ wide (boundsOf (now (runs .entry))) ⌝ }
+{
+    match bounds(runs) {
+        Some((least, greatest)) => greatest.saturating_sub(least),
+        None => 0,
+    }
+}
+
+// A played world now: who is there, the local clock's drift and count, true time, and what is said.
+#[derive(Drop)]
 pub struct Scene {
+    cast: Cast,
     drift: Drift,
     count: u64,
     truth: u64,
-    said: Span,
-}
-
-// Whether a world can have these settings, but for the drift.
-fn in_range(settings: &Settings) -> bool
-    ensures value { λ r. ⌜ r ≡ inRange (now (settings .entry)) ⌝ }
-{
-    1 <= settings.servers
-        && settings.servers <= 10
-        && settings.faulty < settings.servers
-        && settings.truth <= LATEST
+    ledger: Ledger,
 }
 
 impl Scene {
     // The beginning of a world with these settings.
-    pub fn new(settings: &Settings) -> Result<Scene, Fault>
-        ensures value { λ r. ⌜ seen r ≡ began (now (settings .entry)) ⌝ }
-        ensures begins { λ r. ⌜ Begins (now (settings .entry)) (seen r) ⌝ }
+    pub fn new(heap: Global, settings: &Settings) -> Result<Scene, Fault>
+        ensures begins { λ r. ⌜ made r (λ s. (inRange (now (settings .entry)) ≡ true) × Plays (rulesOf (now (settings .entry))) [] [] (viewOf s)) ⌝ }
+        ensures refuses { λ r. ⌜ refused r (λ e. NotBegun (now (settings .entry)) e) ⌝ }
     {
-        if !in_range(settings) {
+        let Some(cast) = Cast::new(settings.servers, settings.faulty) else {
             return Err(Fault::SettingsRange);
-        }
+        };
         let Some(drift) = Drift::new(settings.drift) else {
             return Err(Fault::SettingsRange);
         };
-        let truth = settings.truth;
-        Ok(Scene {
-            drift,
-            count: 0,
-            truth,
-            said: Span::upto(LATEST),
-        })
-    }
-
-    // What is shown of a world now.
-    pub fn moment(self) -> Moment
-        ensures value { λ r. ⌜ r ≡ shown (viewOf self) ⌝ }
-    {
-        let said = self.said.contains(self.truth);
-        let width = self.said.width();
-        Moment {
-            count: self.count,
-            truth: self.truth,
-            said,
-            width,
+        if settings.truth > LATEST {
+            return Err(Fault::SettingsRange);
         }
+        let Ok(ledger) = Ledger::new(heap, cast.servers(), cast.faulty(), LATEST) else {
+            return Err(Fault::NoMemory);
+        };
+        Ok(Scene { cast, drift, count: 0, truth: settings.truth, ledger })
     }
 
-    // The world a moment later: the local clock has counted `ticks` on, and true time has gone on by `step`.
-    pub fn pass(self, ticks: u64, step: u64) -> Result<Scene, Fault>
-        ensures value { λ r. ⌜ seen r ≡ passed (viewOf self) ticks step ⌝ }
-        ensures goes { λ r. ⌜ Goes (viewOf self) ticks step (seen r) ⌝ }
+    // The local clock counts `ticks` on, and true time goes on by `step`.
+    pub fn pass(&mut self, ticks: u64, step: u64) -> Result<(), Fault>
+        ensures answer { λ r. ⌜ Answers (passFault (viewOf (now (self .entry))) ticks step) r ⌝ }
+        ensures after { λ r. ⌜ made r (λ _. Passed (viewOf (now (self .entry))) ticks step (viewOf (now (self .exit)))) ⌝ }
+        ensures same { λ r. ⌜ refused r (λ _. now (self .exit) ≡ now (self .entry)) ⌝ }
+        ensures leads { λ r. ⌜ made r (λ _. LeadsOn (shows ticks ∷ []) (viewOf (now (self .entry))) (viewOf (now (self .exit)))) ⌝ }
     {
         if !self.drift.allows(ticks, step) {
             return Err(Fault::OutsideDrift);
@@ -102,40 +119,114 @@ impl Scene {
         let Some(count) = self.count.checked_add(ticks) else {
             return Err(Fault::PastCount);
         };
-        Ok(Scene {
-            drift: self.drift,
-            count,
-            truth,
-            said: self.said.later(self.drift, ticks),
-        })
+        self.ledger.pass(self.drift.stride(ticks));
+        self.count = count;
+        self.truth = truth;
+        Ok(())
     }
-}
 
-pub impl fmt::Display for Moment as MomentDisplay {
-    fn fmt<W: fmt::Write>(&self, f: &mut fmt::Formatter<W>) -> fmt::Result {
-        let count = self.count;
-        let truth = self.truth;
-        let said = if self.said { "said" } else { "not said" };
-        let width = self.width;
-        write!(f, "count {count} true {truth} {said} width {width}")
+    // Why a word can't be spoken at all.
+    fn word_fault(&self, word: &Word) -> Option<Fault>
+        ensures value { λ r. ⌜ r ≡ wordFault (viewOf (now (self .entry))) (now (word .entry)) ⌝ }
+    {
+        if !self.cast.has(word.server) {
+            return Some(Fault::NoServer);
+        }
+        if word.midpoint > CEILING || word.radius > WIDEST {
+            return Some(Fault::WordRange);
+        }
+        None
     }
-}
 
-pub impl fmt::Display for Fault as FaultDisplay {
-    fn fmt<W: fmt::Write>(&self, f: &mut fmt::Formatter<W>) -> fmt::Result {
-        let text = match self {
-            Fault::Unread(Unread::UnknownWord) => "no statement begins with this word",
-            Fault::Unread(Unread::MissingNumber) => "a number is missing",
-            Fault::Unread(Unread::NoNumber) => "a number is expected",
-            Fault::Unread(Unread::TooLarge) => "a number is too large",
-            Fault::Unread(Unread::TooMuch) => "the statement goes on too long",
-            Fault::NoSettings => "the settings come first",
-            Fault::SettingsAgain => "the settings come only once",
-            Fault::SettingsRange => "the settings are out of range",
-            Fault::OutsideDrift => "the step lies outside the drift",
-            Fault::PastCeiling => "true time would pass its ceiling",
-            Fault::PastCount => "the local clock would pass its largest count",
-        };
-        f.write_str(text)
+    // Why an honest server can't say this.
+    fn reply_fault(&self, word: &Word) -> Option<Fault>
+        ensures value { λ r. ⌜ r ≡ replyFault (viewOf (now (self .entry))) (now (word .entry)) ⌝ }
+    {
+        if let Some(fault) = self.word_fault(word) {
+            return Some(fault);
+        }
+        let least = word.midpoint.saturating_sub(word.radius);
+        let greatest = word.midpoint.saturating_add(word.radius);
+        if self.truth < least || self.truth > greatest {
+            return Some(Fault::NotTrue);
+        }
+        None
+    }
+
+    // Why a faulty server can't say this.
+    fn lie_fault(&self, word: &Word) -> Option<Fault>
+        ensures value { λ r. ⌜ r ≡ lieFault (viewOf (now (self .entry))) (now (word .entry)) ⌝ }
+    {
+        if let Some(fault) = self.word_fault(word) {
+            return Some(fault);
+        }
+        if !self.cast.may_lie(word.server) {
+            return Some(Fault::TooManyLie);
+        }
+        None
+    }
+
+    // A server is asked and heard at this moment.
+    fn hear(&mut self, word: &Word)
+        requires { ⌜ now word .server < 256 ⌝ ∗ ⌜ now word .midpoint ≤ 2 ^ 62 ⌝ ∗ ⌜ now word .radius ≤ 2 ^ 31 ⌝ }
+        ensures heard { λ _. ⌜ Heard (viewOf (now (self .entry))) (now (word .entry)) (viewOf (now (self .exit))) ⌝ }
+        ensures liars { λ _. ⌜ SameLiars (viewOf (now (self .entry))) (viewOf (now (self .exit))) ⌝ }
+    {
+        let still = self.drift.stride(0);
+        let least = word.midpoint.saturating_sub(word.radius);
+        self.ledger.hear(still, word.server as u8, least, word.midpoint + word.radius);
+    }
+
+    // An honest server is asked and heard.
+    pub fn reply(&mut self, word: &Word) -> Result<(), Fault>
+        ensures answer { λ r. ⌜ Answers (replyFault (viewOf (now (self .entry))) (now (word .entry))) r ⌝ }
+        ensures after { λ r. ⌜ made r (λ _. Stayed (viewOf (now (self .entry))) (viewOf (now (self .exit)))) ⌝ }
+        ensures same { λ r. ⌜ refused r (λ _. now (self .exit) ≡ now (self .entry)) ⌝ }
+        ensures leads { λ r. ⌜ made r (λ _. LeadsOn (heardOf (now (word .entry))) (viewOf (now (self .entry))) (viewOf (now (self .exit)))) ⌝ }
+    {
+        match self.reply_fault(word) {
+            Some(fault) => Err(fault),
+            None => {
+                self.hear(word);
+                Ok(())
+            }
+        }
+    }
+
+    // A faulty server is asked and heard.
+    pub fn lie(&mut self, word: &Word) -> Result<(), Fault>
+        ensures answer { λ r. ⌜ Answers (lieFault (viewOf (now (self .entry))) (now (word .entry))) r ⌝ }
+        ensures after { λ r. ⌜ made r (λ _. Lied (viewOf (now (self .entry))) (now (word .entry)) (viewOf (now (self .exit)))) ⌝ }
+        ensures same { λ r. ⌜ refused r (λ _. now (self .exit) ≡ now (self .entry)) ⌝ }
+        ensures leads { λ r. ⌜ made r (λ _. LeadsOn (heardOf (now (word .entry))) (viewOf (now (self .entry))) (viewOf (now (self .exit)))) ⌝ }
+    {
+        match self.lie_fault(word) {
+            Some(fault) => Err(fault),
+            None => {
+                self.cast.lie(word.server);
+                self.hear(word);
+                Ok(())
+            }
+        }
+    }
+
+    // The runs of times that are said.
+    pub fn runs(&self) -> &[Run]
+        ensures value { λ r. ⌜ now r ≡ viewOf (now (self .entry)) .runs ⌝ }
+    {
+        self.ledger.runs()
+    }
+
+    // What is shown of the world now.
+    pub fn moment(&self) -> Moment
+        ensures count { λ r. ⌜ r .count ≡ now (self .entry) .count ⌝ }
+        ensures truth { λ r. ⌜ r .truth ≡ now (self .entry) .truth ⌝ }
+        ensures said { λ r. ⌜ r .said ≡ saidOf (viewOf (now (self .entry))) ⌝ }
+        ensures width { λ r. ⌜ r .width ≡ widthOf (viewOf (now (self .entry))) ⌝ }
+        ensures named { λ r. ⌜ NamesExact (now (self .entry) .ledger .servers) (viewOf (now (self .entry)) .choices) (viewOf (now (self .entry)) .row) (r .named) ⌝ }
+        ensures always { λ r. ⌜ ((rs : Rules) (es : List Event) (ts : List ℕ) → Plays rs es ts (viewOf (now (self .entry))) → r .said ≡ true) ⌝ }
+    {
+        let runs = self.ledger.runs();
+        Moment { count: self.count, truth: self.truth, said: contains(runs, self.truth), width: width(runs), named: self.ledger.named() }
     }
 }

@@ -7,11 +7,12 @@ use lib.Dec.{eqb}
 use Rattle.std.specs.declared.result.Result.{Result}
 use Rattle.std.specs.declared.result.Result.the-variants.{Ok, Err}
 use Rattle.std.specs.shelf.Text.{sameBytes}
-use Rattle.script.specs.Words.{firstWord, afterWord, andThen, two, four}
+use Rattle.script.specs.Words.{firstWord, afterWord, andThen, two, three, four}
 use Rattle.script.specs.declared.words.Unread.{Unread}
 use Rattle.script.specs.declared.words.Unread.the-variants.{UnknownWord}
+use Rattle.script.specs.declared.Word.{Word}
 use Rattle.script.specs.declared.Keyword.{Keyword}
-use Rattle.script.specs.declared.Keyword.the-variants.{Comment, Settings, Pass}
+use Rattle.script.specs.declared.Keyword.the-variants.{Comment, Settings, Pass, Reply, Lie}
 use Rattle.script.specs.declared.Statement.{Statement}
 use Rattle.script.specs.declared.Statement.the-variants.{Nothing, Begin}
 use Rattle.script.specs.declared.Statement.the-variants as Statement
@@ -27,7 +28,9 @@ keywordOf w =
     cond (silent w) (Ok Comment)
     (cond (sameBytes w (codes "settings")) (Ok Settings)
     (cond (sameBytes w (codes "pass")) (Ok Pass)
-    (Err UnknownWord)))
+    (cond (sameBytes w (codes "reply")) (Ok Reply)
+    (cond (sameBytes w (codes "lie")) (Ok Lie)
+    (Err UnknownWord)))))
 
 -- settings SERVERS FAULTY DRIFT TRUTH
 abbrev pub beginOf : List ℕ → Result Statement Unread
@@ -37,11 +40,23 @@ beginOf cs = andThen (four cs) (λ x. Ok (Begin (record { servers = x .0; faulty
 abbrev pub passOf : List ℕ → Result Statement Unread
 passOf cs = andThen (two cs) (λ x. Ok (Statement.Pass (x .0) (x .1)))
 
+-- reply SERVER MIDPOINT RADIUS, and lie SERVER MIDPOINT RADIUS
+abbrev pub wordOf : List ℕ → Result Word Unread
+wordOf cs = andThen (three cs) (λ x. Ok (record { server = x .0; midpoint = x .1; radius = x .2 }))
+
+abbrev pub replyOf : List ℕ → Result Statement Unread
+replyOf cs = andThen (wordOf cs) (λ w. Ok (Statement.Reply w))
+
+abbrev pub lieOf : List ℕ → Result Statement Unread
+lieOf cs = andThen (wordOf cs) (λ w. Ok (Statement.Lie w))
+
 -- what follows the keyword
 abbrev pub saidBy : Keyword → List ℕ → Result Statement Unread
 saidBy Comment cs = Ok Nothing
 saidBy Settings cs = beginOf cs
 saidBy Pass cs = passOf cs
+saidBy Reply cs = replyOf cs
+saidBy Lie cs = lieOf cs
 
 -- what a line says
 unfoldable pub statementOf : List ℕ → Result Statement Unread

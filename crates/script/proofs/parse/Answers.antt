@@ -6,7 +6,7 @@ use Rattle.std.specs.declared.result.Result.the-variants.{Ok, Err}
 use Rattle.std.proofs.shelf.Results.{err-from-errBy}
 use Rattle.script.specs.declared.words.Unread.{Unread}
 use Rattle.script.specs.declared.Keyword.{Keyword}
-use Rattle.script.specs.declared.Keyword.the-variants.{Comment, Settings, Pass}
+use Rattle.script.specs.declared.Keyword.the-variants.{Comment, Settings, Pass, Reply, Lie}
 use Rattle.script.specs.declared.Statement.{Statement}
 use Rattle.script.specs.Words.{firstWord, afterWord}
 use Rattle.script.specs.Script.{statementOf, keywordOf, saidBy}
@@ -44,3 +44,13 @@ pub returns-in-Pass : need.returns-in-Pass
 returns-in-Pass c =
     let k = sym (c .in-Continue-read-keyword .ensures tt .value) ∙ ap Ok (c .in-Pass .is) in
     record { value = c .read-pass .ensures .value ∙ by-keyword (c .args .line .now) _ (c .first-word .result .1 .now) Pass (c .first-word .ensures .word) (c .first-word .ensures .rest) k; numbers = numbers-read }
+
+pub returns-in-Reply : need.returns-in-Reply
+returns-in-Reply c =
+    let k = sym (c .in-Continue-read-keyword .ensures tt .value) ∙ ap Ok (c .in-Reply .is) in
+    record { value = c .read-reply .ensures .value ∙ by-keyword (c .args .line .now) _ (c .first-word .result .1 .now) Reply (c .first-word .ensures .word) (c .first-word .ensures .rest) k; numbers = numbers-read }
+
+pub returns-in-Lie : need.returns-in-Lie
+returns-in-Lie c =
+    let k = sym (c .in-Continue-read-keyword .ensures tt .value) ∙ ap Ok (c .in-Lie .is) in
+    record { value = c .read-lie .ensures .value ∙ by-keyword (c .args .line .now) _ (c .first-word .result .1 .now) Lie (c .first-word .ensures .word) (c .first-word .ensures .rest) k; numbers = numbers-read }

@@ -1,15 +1,17 @@
-use mathlib.Core.Path.{_≡_, sym}
+use mathlib.Core.Path.{_≡_, refl, sym, subst, _∙_}
 use Prim.Native.Nat.{_+_}
 use native.Mathlib.Omega.{arith}
 use Rattle.std.proofs.shelf.Ways.{tells}
-use Rattle.play.proofs.Acts.{plays-on}
+use Rattle.play.proofs.Acts.{passes-on}
 use Rattle.play.proofs.scene.Scene.pass.Needs as need
 
 pub returns : need.returns
 returns c =
-    let truth : c .saturating-add-truth .result ≡ c .args .self .truth + c .args .step = omega arith in
+    let truth : c .saturating-add-truth .result ≡ c .args .self .now .truth + c .args .step = omega arith in
     let count = c .in-Some .ensures tt .1 in
     record {
-      value = grind (arith, tells);
-      goes = λ rs es ts h. plays-on rs es ts _ _ (c .args .ticks) (c .args .step) h (sym (c .if-not-allows .ensures tt .value)) (omega arith) (cc);
+      answer = grind (arith, tells);
+      after = record { same = record { servers = refl; faulty = refl; drift = refl }; liars = record { liars = refl; lied = refl }; count = count; truth = truth };
+      same = tt;
+      leads = passes-on (c .args .ticks) (c .args .step) _ _ _ _ (sym (c .if-not-allows .ensures tt .value)) (omega arith) (c .stride .ensures .value) count truth (record { servers = refl; faulty = refl; drift = refl }) (record { liars = refl; lied = refl }) (c .pass .ensures .same .0) (c .pass .ensures .passes) (c .pass .ensures .says);
     }

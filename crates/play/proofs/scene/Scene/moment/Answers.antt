@@ -1,0 +1,18 @@
+use mathlib.Core.Path.{_≡_, refl, sym, ap, _∙_}
+use Rattle.choice.specs.Runs.{inRuns, boundsOf}
+use Rattle.play.specs.Scene.{viewOf, wide}
+use Rattle.play.proofs.Acts.{always-said}
+use Rattle.play.proofs.scene.Scene.moment.Needs as need
+
+pub returns : need.returns
+returns c =
+    let self = viewOf (c .args .self .now) in
+    let said = c .contains .ensures .value ∙ ap (inRuns (c .args .self .now .truth)) (c .runs-runs .ensures .value) in
+    record {
+      count = refl;
+      truth = refl;
+      said = said;
+      width = c .width .ensures .value ∙ ap (λ rs. wide (boundsOf rs)) (c .runs-runs .ensures .value);
+      named = c .named .ensures .exact;
+      always = λ rs es ts h. said ∙ always-said rs es ts self h;
+    }
