@@ -190,8 +190,7 @@ pub some-bounds : (rs : List Run) → Apart 0 rs → 0 < length rs → Bounds rs
 unfolding inRuns Apart
 some-bounds [] a h = absurd (omega arith)
 some-bounds (r ∷ rs) a h =
-    let e : getD (r ∷ rs) (suc (length rs) - 1) none .hi ≡ lastHigh r rs = ap (λ i. getD (r ∷ rs) i none .hi) (omega arith) ∙ last-is r rs in
-    (
+    let e : getD (r ∷ rs) (suc (length rs) - 1) none .hi ≡ lastHigh r rs = ap (λ i. getD (r ∷ rs) i none .hi) (omega arith) ∙ last-is r rs in (
       or-left (inRun (r .lo) r) (inRuns (r .lo) rs) (ends-in r (a .1) .0),
       ap (λ x. inRuns x (r ∷ rs)) e ∙ last-in 0 r rs a,
       λ t k. let w = all-within 0 r rs a t k in (w .0, subst (λ x. t ≤ x) (sym e) (w .1)),

@@ -1,7 +1,9 @@
 // Plays a script from standard input and prints each moment; a line that is refused ends it.
+use choice::row::is_faulty;
+use choice::runs::Run;
 use play::Player;
 use play::scene::FaultDisplay;
-use play::scene::MomentDisplay;
+use play::scene::Scene;
 use std::error::AnyError;
 use std::io::BufRead;
 use std::io::BufReader;
@@ -14,17 +16,56 @@ fn without_end(line: &[u8]) -> &[u8] {
     }
 }
 
-// Plays one line, and prints what it shows.
-fn play(rt: &LibcRuntime, player: &mut Player, number: u64, line: &[u8]) -> Result<(), AnyError> {
-    match player.line(line) {
-        Ok(Some(moment)) => println!(rt, "{moment}")?,
-        Ok(None) => {}
-        Err(fault) => {
-            println!(rt, "line {number} is refused: {fault}")?;
-            return Err("no world of these rules".into());
+// The runs of times that are said.
+fn print_runs(rt: &LibcRuntime, runs: &[Run]) -> Result<(), AnyError> {
+    print!(rt, " runs")?;
+    for run in runs {
+        let lo = run.lo;
+        let hi = run.hi;
+        print!(rt, " {lo}-{hi}")?;
+    }
+    Ok(())
+}
+
+// The named servers.
+fn print_named(rt: &LibcRuntime, named: u16) -> Result<(), AnyError> {
+    print!(rt, " named")?;
+    for server in 0..10u8 {
+        if is_faulty(named, server) {
+            print!(rt, " {server}")?;
         }
     }
     Ok(())
+}
+
+// A moment of the world that is played.
+fn print_moment(rt: &LibcRuntime, scene: &Scene) -> Result<(), AnyError> {
+    let moment = scene.moment();
+    let count = moment.count;
+    let truth = moment.truth;
+    let said = if moment.said { "said" } else { "not said" };
+    let width = moment.width;
+    print!(rt, "count {count} true {truth} {said} width {width}")?;
+    print_runs(rt, scene.runs())?;
+    print_named(rt, moment.named)?;
+    println!(rt)?;
+    Ok(())
+}
+
+// Plays one line, and prints the moment after it.
+fn play(rt: &LibcRuntime, player: &mut Player, number: u64, line: &[u8]) -> Result<(), AnyError> {
+    match player.line(rt.alloc(), line) {
+        Ok(shown) => {
+            if let (true, Some(scene)) = (shown, player.scene()) {
+                print_moment(rt, scene)?;
+            }
+            Ok(())
+        }
+        Err(fault) => {
+            println!(rt, "line {number} is refused: {fault}")?;
+            Err("no world of these rules".into())
+        }
+    }
 }
 
 fn run(rt: &LibcRuntime) -> Result<(), AnyError> {

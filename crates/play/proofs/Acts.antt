@@ -55,21 +55,24 @@ module _ (p q : Played) (same : Same p q) (liars : SameLiars p q) (r : Rules) (e
 
 -- time passes
 pub passes-on : (n u low high : ℕ) (p q : Played) → allowed (p .drift) n u ≡ true → p .truth + u ≤ ceiling → Strides (p .drift) n low high → q .count ≡ p .count + n → q .truth ≡ p .truth + u → Same p q → SameLiars p q → q .choices ≡ p .choices → Passes low high (p .choices) (p .row) (q .row) → Says (q .row) (q .runs) → LeadsOn (shows n ∷ []) p q
-passes-on n u low high p q a c s count truth same liars choices passes says r es ts h = ((p .truth + u) ∷ ts, record {
-  servers = same .servers ∙ h .servers;
-  faulty = same .faulty ∙ h .faulty;
-  drift = same .drift ∙ h .drift;
-  counted = count ∙ ap (λ x. x + n) (h .counted);
-  few = omega (arith, liars .liars, same .faulty, h .few);
-  many = same-many p q same liars r es ts h;
-  there = same-there p q same liars r es ts h;
-  way =
-      subst (λ bs. Way r (liarsOf bs) (shows n ∷ es) (q .truth) ((p .truth + u) ∷ ts)) (sym (liars .lied))
-      (subst (λ t. Way r (liarsOf (p .lied)) (shows n ∷ es) t ((p .truth + u) ∷ ts)) (sym truth)
-      (goes (h .way) (subst (λ d. Fits d n (p .truth) (p .truth + u)) (h .drift) (allowed-fits (p .drift) n (p .truth) u .0 a)) c tt));
-  stands = subst (λ cs. Stands r (shows n ∷ es) cs (q .row)) (sym choices) (passes r es n (subst (λ d. Strides d n low high) (h .drift) s) (h .stands));
-  says = says;
-})
+passes-on n u low high p q a c s count truth same liars choices passes says r es ts h = (
+  (p .truth + u) ∷ ts,
+  record {
+    servers = same .servers ∙ h .servers;
+    faulty = same .faulty ∙ h .faulty;
+    drift = same .drift ∙ h .drift;
+    counted = count ∙ ap (λ x. x + n) (h .counted);
+    few = omega (arith, liars .liars, same .faulty, h .few);
+    many = same-many p q same liars r es ts h;
+    there = same-there p q same liars r es ts h;
+    way =
+        subst (λ bs. Way r (liarsOf bs) (shows n ∷ es) (q .truth) ((p .truth + u) ∷ ts)) (sym (liars .lied))
+        (subst (λ t. Way r (liarsOf (p .lied)) (shows n ∷ es) t ((p .truth + u) ∷ ts)) (sym truth)
+        (goes (h .way) (subst (λ d. Fits d n (p .truth) (p .truth + u)) (h .drift) (allowed-fits (p .drift) n (p .truth) u .0 a)) c tt));
+    stands = subst (λ cs. Stands r (shows n ∷ es) cs (q .row)) (sym choices) (passes r es n (subst (λ d. Strides d n low high) (h .drift) s) (h .stands));
+    says = says;
+  },
+)
 
 -- true time does not pass the ceiling
 low-way : {r : Rules} {who : Faulty} {es : List Event} {t : ℕ} {ts : List ℕ} → Way r who es t ts → t ≤ ceiling
@@ -85,21 +88,24 @@ heard-way r who es t ts w way true-word =
     (λ e. let k = true-word e in record { at = t; after = omega arith; before = omega arith; low = k .0; high = k .1 })
 
 pub replies-on : (low high : ℕ) (p q : Played) (w : Word) → leastOf w ≤ p .truth → p .truth ≤ greatestOf w → Strides (p .drift) 0 low high → q .count ≡ p .count → q .truth ≡ p .truth → Same p q → SameLiars p q → q .choices ≡ p .choices → Hears low high (w .server) (leastOf w) (greatestOf w) (p .choices) (p .row) (q .row) → Says (q .row) (q .runs) → LeadsOn (heardOf w) p q
-replies-on low high p q w lo hi s count truth same liars choices told says r es ts h = (p .truth ∷ (p .truth ∷ ts), record {
-  servers = same .servers ∙ h .servers;
-  faulty = same .faulty ∙ h .faulty;
-  drift = same .drift ∙ h .drift;
-  counted = omega (arith, count, h .counted);
-  few = omega (arith, liars .liars, same .faulty, h .few);
-  many = same-many p q same liars r es ts h;
-  there = same-there p q same liars r es ts h;
-  way =
-      subst (λ bs. Way r (liarsOf bs) (hears (w .server) (leastOf w) (greatestOf w) ∷ (asks (w .server) ∷ es)) (q .truth) (p .truth ∷ (p .truth ∷ ts))) (sym (liars .lied))
-      (subst (λ t. Way r (liarsOf (p .lied)) (hears (w .server) (leastOf w) (greatestOf w) ∷ (asks (w .server) ∷ es)) t (p .truth ∷ (p .truth ∷ ts))) (sym truth)
-      (heard-way r (liarsOf (p .lied)) es (p .truth) ts w (h .way) (λ _. (lo, hi))));
-  stands = subst (λ cs. Stands r (hears (w .server) (leastOf w) (greatestOf w) ∷ (asks (w .server) ∷ es)) cs (q .row)) (sym choices) (told r es (subst (λ d. Strides d 0 low high) (h .drift) s) (omega arith) (h .stands));
-  says = says;
-})
+replies-on low high p q w lo hi s count truth same liars choices told says r es ts h = (
+  p .truth ∷ (p .truth ∷ ts),
+  record {
+    servers = same .servers ∙ h .servers;
+    faulty = same .faulty ∙ h .faulty;
+    drift = same .drift ∙ h .drift;
+    counted = omega (arith, count, h .counted);
+    few = omega (arith, liars .liars, same .faulty, h .few);
+    many = same-many p q same liars r es ts h;
+    there = same-there p q same liars r es ts h;
+    way =
+        subst (λ bs. Way r (liarsOf bs) (hears (w .server) (leastOf w) (greatestOf w) ∷ (asks (w .server) ∷ es)) (q .truth) (p .truth ∷ (p .truth ∷ ts))) (sym (liars .lied))
+        (subst (λ t. Way r (liarsOf (p .lied)) (hears (w .server) (leastOf w) (greatestOf w) ∷ (asks (w .server) ∷ es)) t (p .truth ∷ (p .truth ∷ ts))) (sym truth)
+        (heard-way r (liarsOf (p .lied)) es (p .truth) ts w (h .way) (λ _. (lo, hi))));
+    stands = subst (λ cs. Stands r (hears (w .server) (leastOf w) (greatestOf w) ∷ (asks (w .server) ∷ es)) cs (q .row)) (sym choices) (told r es (subst (λ d. Strides d 0 low high) (h .drift) s) (omega arith) (h .stands));
+    says = says;
+  },
+)
 
 -- one server more that lies
 liar-at : (lied : List Bool) (v : ℕ) → v < length lied → liarsOf (set lied v true) v ≡ true
@@ -115,28 +121,32 @@ liars-more : (lied : List Bool) (v n : ℕ) → v < length lied → v < n → ho
 liars-more lied v n h l = go (liarsOf lied v) refl where
   alike : (k : ℕ) → liarsOf (set lied v true) k ≡ with-one (liarsOf lied) v k
   alike k = ⊎-elim (λ same. ap (liarsOf (set lied v true)) same ∙ liar-at lied v h ∙ sym (ap (with-one (liarsOf lied) v) same ∙ one-at (liarsOf lied) v)) (λ apart. liar-off lied v k apart ∙ sym (one-off (liarsOf lied) v k apart)) (cases-eq k v)
+
   go : (b : Bool) → liarsOf lied v ≡ b → howMany (liarsOf (set lied v true)) n ≡ howMany (liarsOf lied) n + cond b 0 1
   go true e = many-same (liarsOf (set lied v true)) (liarsOf lied) n (λ k _. ⊎-elim (λ same. ap (liarsOf (set lied v true)) same ∙ liar-at lied v h ∙ sym (ap (liarsOf lied) same ∙ e)) (λ apart. liar-off lied v k apart) (cases-eq k v)) ∙ sym (add-zero _)
   go false e = many-same (liarsOf (set lied v true)) (with-one (liarsOf lied) v) n (λ k _. alike k) ∙ with-more (liarsOf lied) v n l e
 
 pub lies-on : (low high : ℕ) (p q : Played) (w : Word) → w .server < p .servers → w .server < length (p .lied) → q .liars ≤ q .faulty → leastOf w ≤ greatestOf w → Strides (p .drift) 0 low high → q .count ≡ p .count → q .truth ≡ p .truth → Same p q → q .lied ≡ set (p .lied) (w .server) true → q .liars ≡ p .liars + cond (getD (p .lied) (w .server) false) 0 1 → q .choices ≡ p .choices → Hears low high (w .server) (leastOf w) (greatestOf w) (p .choices) (p .row) (q .row) → Says (q .row) (q .runs) → LeadsOn (heardOf w) p q
-lies-on low high p q w there long few order s count truth same lied liars choices told says r es ts h = (p .truth ∷ (p .truth ∷ ts), record {
-  servers = same .servers ∙ h .servers;
-  faulty = same .faulty ∙ h .faulty;
-  drift = same .drift ∙ h .drift;
-  counted = omega (arith, count, h .counted);
-  few = few;
-  many = ap₂ (λ bs n. howMany (liarsOf bs) n) lied (same .servers) ∙ liars-more (p .lied) (w .server) (p .servers) long there ∙ ap (λ x. x + cond (getD (p .lied) (w .server) false) 0 1) (h .many) ∙ sym liars;
-  there = λ v e. subst (λ n. v < n) (sym (same .servers)) (⊎-elim (λ here. subst (λ x. x < p .servers) (sym here) there) (λ apart. h .there v (sym (liar-off (p .lied) (w .server) v apart) ∙ ap (λ bs. liarsOf bs v) (sym lied) ∙ e)) (cases-eq v (w .server)));
-  way =
-      subst (λ bs. Way r (liarsOf bs) (hears (w .server) (leastOf w) (greatestOf w) ∷ (asks (w .server) ∷ es)) (q .truth) (p .truth ∷ (p .truth ∷ ts))) (sym lied)
-      (subst (λ t. Way r (liarsOf (set (p .lied) (w .server) true)) (hears (w .server) (leastOf w) (greatestOf w) ∷ (asks (w .server) ∷ es)) t (p .truth ∷ (p .truth ∷ ts))) (sym truth)
-      (heard-way r (liarsOf (set (p .lied) (w .server) true)) es (p .truth) ts w
-      (path-way r _ es (p .truth) ts (wider-path r (liarsOf (p .lied)) (liarsOf (set (p .lied) (w .server) true)) (more-lie (p .lied) (w .server) long) (moments es) (p .truth) ts (way-path (h .way))))
-      (λ e. absurd (both-ways (liarsOf (set (p .lied) (w .server) true) (w .server)) e (liar-at (p .lied) (w .server) long)))));
-  stands = subst (λ cs. Stands r (hears (w .server) (leastOf w) (greatestOf w) ∷ (asks (w .server) ∷ es)) cs (q .row)) (sym choices) (told r es (subst (λ d. Strides d 0 low high) (h .drift) s) order (h .stands));
-  says = says;
-})
+lies-on low high p q w there long few order s count truth same lied liars choices told says r es ts h = (
+  p .truth ∷ (p .truth ∷ ts),
+  record {
+    servers = same .servers ∙ h .servers;
+    faulty = same .faulty ∙ h .faulty;
+    drift = same .drift ∙ h .drift;
+    counted = omega (arith, count, h .counted);
+    few = few;
+    many = ap₂ (λ bs n. howMany (liarsOf bs) n) lied (same .servers) ∙ liars-more (p .lied) (w .server) (p .servers) long there ∙ ap (λ x. x + cond (getD (p .lied) (w .server) false) 0 1) (h .many) ∙ sym liars;
+    there = λ v e. subst (λ n. v < n) (sym (same .servers)) (⊎-elim (λ here. subst (λ x. x < p .servers) (sym here) there) (λ apart. h .there v (sym (liar-off (p .lied) (w .server) v apart) ∙ ap (λ bs. liarsOf bs v) (sym lied) ∙ e)) (cases-eq v (w .server)));
+    way =
+        subst (λ bs. Way r (liarsOf bs) (hears (w .server) (leastOf w) (greatestOf w) ∷ (asks (w .server) ∷ es)) (q .truth) (p .truth ∷ (p .truth ∷ ts))) (sym lied)
+        (subst (λ t. Way r (liarsOf (set (p .lied) (w .server) true)) (hears (w .server) (leastOf w) (greatestOf w) ∷ (asks (w .server) ∷ es)) t (p .truth ∷ (p .truth ∷ ts))) (sym truth)
+        (heard-way r (liarsOf (set (p .lied) (w .server) true)) es (p .truth) ts w
+        (path-way r _ es (p .truth) ts (wider-path r (liarsOf (p .lied)) (liarsOf (set (p .lied) (w .server) true)) (more-lie (p .lied) (w .server) long) (moments es) (p .truth) ts (way-path (h .way))))
+        (λ e. absurd (both-ways (liarsOf (set (p .lied) (w .server) true) (w .server)) e (liar-at (p .lied) (w .server) long)))));
+    stands = subst (λ cs. Stands r (hears (w .server) (leastOf w) (greatestOf w) ∷ (asks (w .server) ∷ es)) cs (q .row)) (sym choices) (told r es (subst (λ d. Strides d 0 low high) (h .drift) s) order (h .stands));
+    says = says;
+  },
+)
 
 -- at first nobody has lied
 honest : (n v : ℕ) → liarsOf (replicate n false) v ≡ false

@@ -1,2 +1,3 @@
 pub mod Scene
 pub mod Plays
+pub mod Player

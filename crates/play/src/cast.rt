@@ -26,7 +26,12 @@ impl Cast {
         if servers > 10 || faulty >= servers {
             return None;
         }
-        Some(Cast { servers: servers as u8, faulty: faulty as u8, liars: 0, lied: [false; 10] })
+        Some(Cast {
+            servers: servers as u8,
+            faulty: faulty as u8,
+            liars: 0,
+            lied: [false; 10],
+        })
     }
 
     pub fn servers(&self) -> u8

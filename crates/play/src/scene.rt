@@ -21,6 +21,7 @@ use script::words::Unread;
 use span::CEILING;
 use span::rate::Drift;
 use std::alloc::Global;
+use std::fmt;
 
 // The latest that true time can be at the beginning.
 const LATEST: u64 = 1 << 61;
@@ -99,7 +100,13 @@ impl Scene {
         let Ok(ledger) = Ledger::new(heap, cast.servers(), cast.faulty(), LATEST) else {
             return Err(Fault::NoMemory);
         };
-        Ok(Scene { cast, drift, count: 0, truth: settings.truth, ledger })
+        Ok(Scene {
+            cast,
+            drift,
+            count: 0,
+            truth: settings.truth,
+            ledger,
+        })
     }
 
     // The local clock counts `ticks` on, and true time goes on by `step`.
@@ -227,6 +234,35 @@ impl Scene {
         ensures always { λ r. ⌜ ((rs : Rules) (es : List Event) (ts : List ℕ) → Plays rs es ts (viewOf (now (self .entry))) → r .said ≡ true) ⌝ }
     {
         let runs = self.ledger.runs();
-        Moment { count: self.count, truth: self.truth, said: contains(runs, self.truth), width: width(runs), named: self.ledger.named() }
+        Moment {
+            count: self.count,
+            truth: self.truth,
+            said: contains(runs, self.truth),
+            width: width(runs),
+            named: self.ledger.named(),
+        }
+    }
+}
+
+pub impl fmt::Display for Fault as FaultDisplay {
+    fn fmt<W: fmt::Write>(&self, f: &mut fmt::Formatter<W>) -> fmt::Result {
+        match self {
+            Fault::Unread(Unread::UnknownWord) => f.write_str("no statement begins with this word"),
+            Fault::Unread(Unread::MissingNumber) => f.write_str("a number is missing"),
+            Fault::Unread(Unread::NoNumber) => f.write_str("a number is expected"),
+            Fault::Unread(Unread::TooLarge) => f.write_str("a number is too large"),
+            Fault::Unread(Unread::TooMuch) => f.write_str("the statement goes on too long"),
+            Fault::NoSettings => f.write_str("the settings come first"),
+            Fault::SettingsAgain => f.write_str("the settings come only once"),
+            Fault::SettingsRange => f.write_str("the settings are out of range"),
+            Fault::OutsideDrift => f.write_str("the step lies outside the drift"),
+            Fault::PastCeiling => f.write_str("true time would pass its ceiling"),
+            Fault::PastCount => f.write_str("the local clock would pass its largest count"),
+            Fault::NoServer => f.write_str("there is no such server"),
+            Fault::WordRange => f.write_str("the midpoint or the radius is out of range"),
+            Fault::NotTrue => f.write_str("what an honest server says is true"),
+            Fault::TooManyLie => f.write_str("more servers lie than may be faulty"),
+            Fault::NoMemory => f.write_str("there is no memory"),
+        }
     }
 }

@@ -110,7 +110,11 @@ fn read_word(rest: &[u8]) -> Result<Word, Unread>
     ensures value { λ r. ⌜ r ≡ wordOf (now (rest .entry)) ⌝ }
 {
     let (server, midpoint, radius) = three(rest)?;
-    Ok(Word { server, midpoint, radius })
+    Ok(Word {
+        server,
+        midpoint,
+        radius,
+    })
 }
 
 fn read_reply(rest: &[u8]) -> Result<Statement, Unread>

@@ -18,8 +18,8 @@ returns c =
     let cs = vec-items (c .in-Ok .ledger .choices) in
     let row = vec-items (c .in-Ok .ledger .here) in
     let first : Begins (s .servers) (s .faulty) latest cs row =
-        subst (λ n. Begins n (s .faulty) latest cs row) (c .servers .ensures .value ∙ cast .1)
-        (subst (λ f. Begins (c .servers .result) f latest cs row) (c .faulty .ensures .value ∙ cast .2) (c .in-Ok .ensures tt .begins)) in
+    subst (λ n. Begins n (s .faulty) latest cs row) (c .servers .ensures .value ∙ cast .1)
+    (subst (λ f. Begins (c .servers .result) f latest cs row) (c .faulty .ensures .value ∙ cast .2) (c .in-Ok .ensures tt .begins)) in
     record {
       begins = (grind (arith, tells), begins-world s _ (omega arith) fewer (cast .1) (cast .2) (cast .3) (cast .4) (rate .1) refl refl first (c .in-Ok .ensures tt .says));
       refuses = tt;
