@@ -12,12 +12,12 @@ use Rattle.std.proofs.shelf.Tests.{both-ways, cases-eq, eq-eqb, ne-eqb, or-left
 use Rattle.span.specs.World.{Rules, Event, Faulty, howMany}
 use Rattle.span.specs.Span.{isIn, holdsNone}
 use Rattle.span.specs.Model.{spanOf}
-use Rattle.span.proofs.Paths.{bounds-lose-nothing, known-exact, more-faulty-wider}
+use Rattle.span.proofs.Paths.{more-faulty-wider}
 use Rattle.choice.specs.Choice.{bit, Allowed, choiceOf}
 use Rattle.choice.specs.Said.{May, Named}
-use Rattle.choice.specs.Promise.{Full, FullSay, FullSayAll, Theorems}
+use Rattle.choice.specs.Promise.{Full, FullSay, FullSayAll, NoRuleSaysLess}
 use Rattle.choice.proofs.Bits.{bit-there, ones-many, many-same, choice-below, choice-bit, choice-ones}
-use Rattle.choice.proofs.Whole.{has-some, some-has, exact-over-all, says-no-less}
+use Rattle.choice.proofs.Whole.{has-some, some-has, says-no-less}
 
 -- the set with one server more
 abbrev pub with-one : Faulty → ℕ → Faulty
@@ -141,12 +141,5 @@ full-say r l es = record {
           let named = all d (fuller-full r l es c v a) (has-some (spanOf r (bit d) es) (t .0) (fuller-wider r l es c v a (t .0) (t .1))) in
           absurd (both-ways (bit d v) (fuller-out r l es c v a (bit-there d (r .servers) v (fuller-full r l es c v a .there) named) e) named)
 
-pub theorems : Theorems
-theorems = record {
-  bounds = bounds-lose-nothing;
-  known = known-exact;
-  whole = exact-over-all;
-  least = λ says blames. says-no-less (λ es t. T (says es t)) (λ es v. T (blames es v));
-  wider = more-faulty-wider;
-  full = full-say;
-}
+pub no-rule-says-less : NoRuleSaysLess
+no-rule-says-less says blames = says-no-less (λ es t. T (says es t)) (λ es v. T (blames es v))

@@ -8,7 +8,6 @@ use lib.Dec.{T}
 use Rattle.span.specs.World.{Rules, Event, World}
 use Rattle.span.specs.Span.{isIn, holdsNone}
 use Rattle.span.specs.Model.{spanOf}
-use Rattle.span.specs.Known.{BoundsLoseNothing, KnownExact, MoreFaultyWider}
 use Rattle.choice.specs.Choice.{bit}
 use Rattle.choice.specs.Said.{May, Named, NoneLeft}
 
@@ -60,12 +59,3 @@ pub record SaysNoLess (says blames : List Event → ℕ → Type 0) : Type 0 whe
 -- the same of rules that are worked out
 abbrev pub NoRuleSaysLess : Type 0
 NoRuleSaysLess = (says blames : List Event → ℕ → Bool) → SaysNoLess (λ es t. T (says es t)) (λ es v. T (blames es v))
-
--- all that is promised of the definitions: a reply's bounds lose nothing; spans are exact if it is known who is faulty; what is said is exact over all choices; no rule says less; more faulty servers give wider spans, so that choices of as many as may be say all
-pub record Theorems : Type 0 where
-  pub bounds : BoundsLoseNothing
-  pub known : KnownExact
-  pub whole : ExactOverAll
-  pub least : NoRuleSaysLess
-  pub wider : MoreFaultyWider
-  pub full : FullSayAll

@@ -6,7 +6,8 @@ ghost use Rattle.std.specs.Of.Vec.{vec-items, vec-len};
 ghost use Rattle.std.specs.Vec.{made};
 ghost use Rattle.choice.specs.Choice.{chosen};
 ghost use Rattle.choice.specs.Cases.{Worked};
-ghost use Rattle.choice.specs.Promise.{SaysNoLess, Theorems};
+ghost use Rattle.choice.specs.Promise.{ExactOverAll, FullSayAll, NoRuleSaysLess, SaysNoLess};
+ghost use Rattle.span.specs.Known.{BoundsLoseNothing, KnownExact, MoreFaultyWider};
 ghost use Rattle.choice.specs.Stands.{AllChosen};
 ghost use Rattle.span.specs.World.{Event};
 use std::alloc::AllocError;
@@ -17,7 +18,12 @@ pub fn choices(heap: Global, servers: u8, faulty: u8) -> Result<Vec<u16>, AllocE
     requires { ⌜ servers ≤ 10 ⌝ }
     ensures items { λ r. ⌜ made r (λ v. vec-items v ≡ chosen faulty (2 ^ servers)) ⌝ }
     ensures all { λ r. ⌜ made r (λ v. AllChosen servers faulty (vec-items v)) ⌝ }
-    ensures theorems { λ _. ⌜ Theorems ⌝ }
+    ensures bounds { λ _. ⌜ BoundsLoseNothing ⌝ }
+    ensures known { λ _. ⌜ KnownExact ⌝ }
+    ensures whole { λ _. ⌜ ExactOverAll ⌝ }
+    ensures least { λ _. ⌜ NoRuleSaysLess ⌝ }
+    ensures wider { λ _. ⌜ MoreFaultyWider ⌝ }
+    ensures full { λ _. ⌜ FullSayAll ⌝ }
     ensures worked { λ _. ⌜ Worked ⌝ }
     ensures few { λ r. ⌜ made r (λ v. faulty < servers → vec-len v ≤ 252) ⌝ }
 {

@@ -131,3 +131,6 @@ impl Ledger {
         named(&self.here, &self.choices, self.servers)
     }
 }
+
+#[cfg(test)]
+mod tests;

@@ -7,7 +7,7 @@ ghost use lib.ListN.{length, getD, set, replicate};
 ghost use Rattle.std.specs.Options.{Cases};
 
 #[derive(Drop)]
-pub struct Cast {
+pub(crate) struct Cast {
     servers: u8,
     faulty: u8,
     liars: u8,
@@ -20,7 +20,7 @@ pub struct Cast {
 
 impl Cast {
     // One to ten servers, of which fewer may be faulty; nobody has lied yet.
-    pub fn new(servers: u64, faulty: u64) -> Option<Cast>
+    pub(crate) fn new(servers: u64, faulty: u64) -> Option<Cast>
         ensures cases { λ r. ⌜ Cases r ((leb servers 10 && ltb faulty servers) ≡ false) (λ c. ((leb servers 10 && ltb faulty servers) ≡ true) × (c .servers ≡ servers) × (c .faulty ≡ faulty) × (c .liars ≡ 0) × (c .lied ≡ replicate 10 false)) ⌝ }
     {
         if servers > 10 || faulty >= servers {
@@ -34,20 +34,20 @@ impl Cast {
         })
     }
 
-    pub fn servers(&self) -> u8
+    pub(crate) fn servers(&self) -> u8
         ensures value { λ r. ⌜ r ≡ now (self .entry) .servers ⌝ }
     {
         self.servers
     }
 
-    pub fn faulty(&self) -> u8
+    pub(crate) fn faulty(&self) -> u8
         ensures value { λ r. ⌜ r ≡ now (self .entry) .faulty ⌝ }
     {
         self.faulty
     }
 
     // Whether there is such a server.
-    pub fn has(&self, server: u64) -> bool
+    pub(crate) fn has(&self, server: u64) -> bool
         ensures value { λ r. ⌜ r ≡ ltb server (now (self .entry) .servers) ⌝ }
     {
         server < u64::from(self.servers)
@@ -64,14 +64,14 @@ impl Cast {
     }
 
     // Whether a server may lie: it has before, or fewer have than may be faulty.
-    pub fn may_lie(&self, server: u64) -> bool
+    pub(crate) fn may_lie(&self, server: u64) -> bool
         ensures value { λ r. ⌜ r ≡ (getD (now (self .entry) .lied) server false || ltb (now (self .entry) .liars) (now (self .entry) .faulty)) ⌝ }
     {
         self.has_lied(server) || self.liars < self.faulty
     }
 
     // Notes that a server lied, if it is there and may.
-    pub fn lie(&mut self, server: u64)
+    pub(crate) fn lie(&mut self, server: u64)
         ensures same { λ _. ⌜ (now (self .exit) .servers ≡ now (self .entry) .servers) × (now (self .exit) .faulty ≡ now (self .entry) .faulty) ⌝ }
         ensures lied { λ _. ⌜ (server < now (self .entry) .servers → (getD (now (self .entry) .lied) server false || ltb (now (self .entry) .liars) (now (self .entry) .faulty)) ≡ true → (now (self .exit) .lied ≡ set (now (self .entry) .lied) server true) × (now (self .exit) .liars ≡ now (self .entry) .liars + cond (getD (now (self .entry) .lied) server false) 0 1)) ⌝ }
     {

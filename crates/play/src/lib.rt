@@ -8,7 +8,7 @@ ghost use Rattle.play.specs.Scene.{viewOf, Answers};
 ghost use Rattle.play.specs.Plays.{LeadsOn};
 ghost use Rattle.play.specs.Player.{actFault, momentsOf, shows, Performs, PerformsLine, Follows, FollowsLine, Starts};
 
-pub mod cast;
+mod cast;
 pub mod scene;
 
 use scene::Fault;

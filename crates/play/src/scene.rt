@@ -84,7 +84,7 @@ pub struct Scene {
 
 impl Scene {
     // The beginning of a world with these settings.
-    pub fn new(heap: Global, settings: &Settings) -> Result<Scene, Fault>
+    pub(crate) fn new(heap: Global, settings: &Settings) -> Result<Scene, Fault>
         ensures begins { λ r. ⌜ made r (λ s. (inRange (now (settings .entry)) ≡ true) × Plays (rulesOf (now (settings .entry))) [] [] (viewOf s)) ⌝ }
         ensures refuses { λ r. ⌜ refused r (λ e. NotBegun (now (settings .entry)) e) ⌝ }
     {
@@ -110,7 +110,7 @@ impl Scene {
     }
 
     // The local clock counts `ticks` on, and true time goes on by `step`.
-    pub fn pass(&mut self, ticks: u64, step: u64) -> Result<(), Fault>
+    pub(crate) fn pass(&mut self, ticks: u64, step: u64) -> Result<(), Fault>
         ensures answer { λ r. ⌜ Answers (passFault (viewOf (now (self .entry))) ticks step) r ⌝ }
         ensures after { λ r. ⌜ made r (λ _. Passed (viewOf (now (self .entry))) ticks step (viewOf (now (self .exit)))) ⌝ }
         ensures same { λ r. ⌜ refused r (λ _. now (self .exit) ≡ now (self .entry)) ⌝ }
@@ -185,7 +185,7 @@ impl Scene {
     }
 
     // An honest server is asked and heard.
-    pub fn reply(&mut self, word: &Word) -> Result<(), Fault>
+    pub(crate) fn reply(&mut self, word: &Word) -> Result<(), Fault>
         ensures answer { λ r. ⌜ Answers (replyFault (viewOf (now (self .entry))) (now (word .entry))) r ⌝ }
         ensures after { λ r. ⌜ made r (λ _. Stayed (viewOf (now (self .entry))) (viewOf (now (self .exit)))) ⌝ }
         ensures same { λ r. ⌜ refused r (λ _. now (self .exit) ≡ now (self .entry)) ⌝ }
@@ -201,7 +201,7 @@ impl Scene {
     }
 
     // A faulty server is asked and heard.
-    pub fn lie(&mut self, word: &Word) -> Result<(), Fault>
+    pub(crate) fn lie(&mut self, word: &Word) -> Result<(), Fault>
         ensures answer { λ r. ⌜ Answers (lieFault (viewOf (now (self .entry))) (now (word .entry))) r ⌝ }
         ensures after { λ r. ⌜ made r (λ _. Lied (viewOf (now (self .entry))) (now (word .entry)) (viewOf (now (self .exit)))) ⌝ }
         ensures same { λ r. ⌜ refused r (λ _. now (self .exit) ≡ now (self .entry)) ⌝ }

@@ -5,8 +5,6 @@ ghost use Rattle.span.specs.Span.{moved, later, atMost, atLeast, isIn, holdsNo
 ghost use Rattle.span.specs.Exact.{StepExact, CutExact};
 
 pub mod rate;
-#[cfg(test)]
-mod tests;
 
 use rate::Drift;
 use rate::Stride;
@@ -116,3 +114,6 @@ impl Span {
         }
     }
 }
+
+#[cfg(test)]
+mod tests;

@@ -12,7 +12,9 @@ use Rattle.std.proofs.shelf.Results.{made-from-err}
 use Rattle.choice.specs.Choice as choice
 use Rattle.choice.specs.Stands.{AllChosen, AllFull}
 use Rattle.choice.proofs.Table.{worked}
-use Rattle.choice.proofs.Fuller.{theorems}
+use Rattle.span.proofs.Paths.{bounds-lose-nothing, known-exact, more-faulty-wider}
+use Rattle.choice.proofs.Whole.{exact-over-all}
+use Rattle.choice.proofs.Fuller.{full-say, no-rule-says-less}
 use Rattle.choice.proofs.Chosen.{chosen-takes, chosen-leaves, all-full, chosen-few}
 use Rattle.choice.proofs.choices.choices.Needs as need
 use Rattle.choice.proofs.choices.choices.Needs.{then-choice-faulty·in-Continue-push, else-choice-faulty}
@@ -49,7 +51,12 @@ returns c =
     record {
       items = items;
       all = λ r s q l. subst (AllFull r) (sym items) (all-full r n f s q l);
-      theorems = theorems;
+      bounds = bounds-lose-nothing;
+      known = known-exact;
+      whole = exact-over-all;
+      least = no-rule-says-less;
+      wider = more-faulty-wider;
+      full = full-say;
       worked = worked;
       few = λ l. omega (arith, c .loop-choice .all .ok .0, ap length items, chosen-few n f (c .pre) l);
     }
@@ -60,7 +67,12 @@ returns-in-Break-push c =
     record {
       items = made-from-err (c .from-residual .result) _ none;
       all = made-from-err (c .from-residual .result) _ none;
-      theorems = theorems;
+      bounds = bounds-lose-nothing;
+      known = known-exact;
+      whole = exact-over-all;
+      least = no-rule-says-less;
+      wider = more-faulty-wider;
+      full = full-say;
       worked = worked;
       few = made-from-err (c .from-residual .result) _ none;
     }
