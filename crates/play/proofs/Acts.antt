@@ -19,14 +19,17 @@ use Rattle.span.specs.Model.{moments}
 use Rattle.span.proofs.Products.{allowed-fits}
 use Rattle.span.proofs.Paths.{way-path, path-way, wider-path}
 use Rattle.choice.specs.Runs.{inRuns}
-use Rattle.choice.specs.Stands.{Stands}
+use Rattle.std.specs.Orderings.{Decides}
+use Rattle.choice.specs.Choice.{bit}
+use Rattle.choice.specs.Promise.{FaultyInAll}
+use Rattle.choice.specs.Stands.{Stands, NamesExact}
 use Rattle.choice.proofs.Bits.{many-same}
 use Rattle.choice.proofs.Fuller.{with-one, with-more, one-at, one-off}
 use Rattle.script.specs.declared.Settings.{Settings}
 use Rattle.script.specs.declared.Word.{Word}
 use Rattle.ledger.specs.Ledger.{shows, asks, hears, Says, Passes, Hears, Begins}
 use Rattle.play.specs.Scene.{Played, latest, leastOf, greatestOf, Same, SameLiars, saidOf, replyFault, lieFault, mayLie}
-use Rattle.play.specs.Plays.{liarsOf, rulesOf, countOf, Plays, heardOf, LeadsOn}
+use Rattle.play.specs.Plays.{liarsOf, rulesOf, countOf, Plays, NamesAll, heardOf, LeadsOn}
 
 -- the played world is one of the worlds, so that true time is said
 pub world-of : (r : Rules) (es : List Event) (ts : List ℕ) (p : Played) → Plays r es ts p → World r es (p .truth)
@@ -71,6 +74,7 @@ passes-on n u low high p q a c s count truth same liars choices passes says r es
         (goes (h .way) (subst (λ d. Fits d n (p .truth) (p .truth + u)) (h .drift) (allowed-fits (p .drift) n (p .truth) u .0 a)) c tt));
     stands = subst (λ cs. Stands r (shows n ∷ es) cs (q .row)) (sym choices) (passes r es n (subst (λ d. Strides d n low high) (h .drift) s) (h .stands));
     says = says;
+    naming = same .naming ∙ h .naming ∙ sym (same .servers);
   },
 )
 
@@ -104,6 +108,7 @@ replies-on low high p q w lo hi s count truth same liars choices told says r es 
         (heard-way r (liarsOf (p .lied)) es (p .truth) ts w (h .way) (λ _. (lo, hi))));
     stands = subst (λ cs. Stands r (hears (w .server) (leastOf w) (greatestOf w) ∷ (asks (w .server) ∷ es)) cs (q .row)) (sym choices) (told r es (subst (λ d. Strides d 0 low high) (h .drift) s) (omega arith) (h .stands));
     says = says;
+    naming = same .naming ∙ h .naming ∙ sym (same .servers);
   },
 )
 
@@ -145,6 +150,7 @@ lies-on low high p q w there long few order s count truth same lied liars choice
         (λ e. absurd (both-ways (liarsOf (set (p .lied) (w .server) true) (w .server)) e (liar-at (p .lied) (w .server) long)))));
     stands = subst (λ cs. Stands r (hears (w .server) (leastOf w) (greatestOf w) ∷ (asks (w .server) ∷ es)) cs (q .row)) (sym choices) (told r es (subst (λ d. Strides d 0 low high) (h .drift) s) order (h .stands));
     says = says;
+    naming = same .naming ∙ h .naming ∙ sym (same .servers);
   },
 )
 
@@ -160,8 +166,8 @@ nobody who h zero = refl
 nobody who h (suc n) = ap (λ b. cond b 1 0 + howMany who n) (h n) ∙ omega (arith, nobody who h n)
 
 -- settings in range begin a world
-pub begins-world : (s : Settings) (p : Played) → s .truth ≤ latest → s .faulty < s .servers → p .servers ≡ s .servers → p .faulty ≡ s .faulty → p .liars ≡ 0 → p .lied ≡ replicate 10 false → p .drift ≡ s .drift → p .count ≡ 0 → p .truth ≡ s .truth → Begins (s .servers) (s .faulty) latest (p .choices) (p .row) → Says (p .row) (p .runs) → Plays (rulesOf s) [] [] p
-begins-world s p low fewer servers faulty liars lied drift count truth first says = record {
+pub begins-world : (s : Settings) (p : Played) → s .truth ≤ latest → s .faulty < s .servers → p .servers ≡ s .servers → p .faulty ≡ s .faulty → p .liars ≡ 0 → p .lied ≡ replicate 10 false → p .drift ≡ s .drift → p .count ≡ 0 → p .truth ≡ s .truth → Begins (s .servers) (s .faulty) latest (p .choices) (p .row) → Says (p .row) (p .runs) → p .naming ≡ s .servers → Plays (rulesOf s) [] [] p
+begins-world s p low fewer servers faulty liars lied drift count truth first says naming = record {
   servers = servers;
   faulty = faulty;
   drift = drift;
@@ -172,6 +178,7 @@ begins-world s p low fewer servers faulty liars lied drift count truth first say
   way = begins (omega (arith, truth)) (omega (arith, truth));
   stands = first (rulesOf s) refl refl fewer refl;
   says = says;
+  naming = naming ∙ sym servers;
 }
 
 -- what no fault says of a word
@@ -180,3 +187,7 @@ true-word p w e = (grind (arith, tells), grind (arith, tells))
 
 pub may-lie : (p : Played) (w : Word) → lieFault p w ≡ None → (w .server < p .servers) × (mayLie p (w .server) ≡ true)
 may-lie p w e = (grind (arith, tells), grind (arith, tells))
+
+-- the named servers are those that are faulty in every world
+pub names-all : (p : Played) (set : ℕ) → NamesExact (p .naming) (p .choices) (p .row) set → NamesAll p set
+names-all p set exact r es ts h v = subst (λ n. (v < n → Decides (bit set v) (FaultyInAll r es v)) × (bit set v ≡ true → v < n)) (h .naming) (exact r es (h .stands) v)

@@ -6,6 +6,9 @@ use Prim.Native.Nat.{ℕ, _+_, _≤_, _<_}
 use lib.ListN.{getD}
 use Rattle.span.specs.Rate.{Strides}
 use Rattle.span.specs.World.{Event, Rules, Faulty, howMany, Way}
+use Rattle.std.specs.Orderings.{Decides}
+use Rattle.choice.specs.Choice.{bit}
+use Rattle.choice.specs.Promise.{FaultyInAll}
 use Rattle.choice.specs.Stands.{Stands}
 use Rattle.script.specs.declared.Settings.{Settings}
 use Rattle.script.specs.declared.Word.{Word}
@@ -37,6 +40,11 @@ pub record Plays (r : Rules) (es : List Event) (ts : List ℕ) (p : Played) : Ty
   pub way : Way r (liarsOf (p .lied)) es (p .truth) ts
   pub stands : Stands r es (p .choices) (p .row)
   pub says : Says (p .row) (p .runs)
+  pub naming : p .naming ≡ p .servers
+
+-- the named servers are just those that are faulty in every world of the run
+abbrev pub NamesAll : Played → ℕ → Type 0
+NamesAll p set = (r : Rules) (es : List Event) (ts : List ℕ) → Plays r es ts p → (v : ℕ) → (v < p .servers → Decides (bit set v) (FaultyInAll r es v)) × (bit set v ≡ true → v < p .servers)
 
 -- the moments of a word that was asked for and heard
 abbrev pub heardOf : Word → List Event

@@ -25,7 +25,7 @@ use Rattle.play.specs.declared.scene.Fault.the-variants.{SettingsRange, Outsid
 abbrev pub latest : ℕ
 latest = 2 ^ 61
 
--- a played world: how many servers there are, may be faulty and have lied, and which; the drift in millionths, the local clock's count and true time; the spans of all choices, and the runs that are said
+-- a played world: how many servers there are, may be faulty and have lied, and which; the drift in millionths, the local clock's count and true time; the spans of all choices, and the runs that are said; and for how many servers names are worked out
 pub record Played : Type 0 where
   pub servers : ℕ
   pub faulty : ℕ
@@ -37,6 +37,7 @@ pub record Played : Type 0 where
   pub choices : List ℕ
   pub row : List ℕ
   pub runs : List Run
+  pub naming : ℕ
 
 abbrev pub viewOf : Scene → Played
 viewOf s = record {
@@ -50,6 +51,7 @@ viewOf s = record {
   choices = vec-items (s .ledger .choices);
   row = vec-items (s .ledger .here);
   runs = take (s .ledger .said) (vec-items (s .ledger .runs));
+  naming = s .ledger .servers;
 }
 
 -- settings of a world: one to ten servers, fewer of them faulty, a drift of at most a thousand millionths, a true time that can be at the beginning
@@ -100,6 +102,7 @@ pub record Same (p q : Played) : Type 0 where
   pub servers : q .servers ≡ p .servers
   pub faulty : q .faulty ≡ p .faulty
   pub drift : q .drift ≡ p .drift
+  pub naming : q .naming ≡ p .naming
 
 pub record SameLiars (p q : Played) : Type 0 where
   pub liars : q .liars ≡ p .liars

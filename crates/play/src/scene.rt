@@ -4,12 +4,11 @@ ghost use mathlib.Core.List.{List, [], _∷_};
 ghost use Prim.Native.Nat.{ℕ, _^_, _<_, _≤_};
 ghost use Rattle.span.specs.World.{Rules, Event};
 ghost use Rattle.choice.specs.Runs.{boundsOf};
-ghost use Rattle.choice.specs.Stands.{NamesExact};
 ghost use mathlib.Core.Path.{_≡_};
 ghost use Rattle.std.specs.Vec.{made, refused};
 ghost use Rattle.ledger.specs.Ledger.{shows};
 ghost use Rattle.play.specs.Scene.{viewOf, inRange, Answers, passFault, Passed, wordFault, replyFault, lieFault, NotBegun, SameLiars, Stayed, Lied, saidOf, wide, widthOf};
-ghost use Rattle.play.specs.Plays.{rulesOf, Plays, Heard, heardOf, LeadsOn};
+ghost use Rattle.play.specs.Plays.{rulesOf, Plays, NamesAll, Heard, heardOf, LeadsOn};
 use crate::cast::Cast;
 use choice::runs::Run;
 use choice::runs::bounds;
@@ -230,7 +229,7 @@ impl Scene {
         ensures truth { λ r. ⌜ r .truth ≡ now (self .entry) .truth ⌝ }
         ensures said { λ r. ⌜ r .said ≡ saidOf (viewOf (now (self .entry))) ⌝ }
         ensures width { λ r. ⌜ r .width ≡ widthOf (viewOf (now (self .entry))) ⌝ }
-        ensures named { λ r. ⌜ NamesExact (now (self .entry) .ledger .servers) (viewOf (now (self .entry)) .choices) (viewOf (now (self .entry)) .row) (r .named) ⌝ }
+        ensures named { λ r. ⌜ NamesAll (viewOf (now (self .entry))) (r .named) ⌝ }
         ensures always { λ r. ⌜ ((rs : Rules) (es : List Event) (ts : List ℕ) → Plays rs es ts (viewOf (now (self .entry))) → r .said ≡ true) ⌝ }
     {
         let runs = self.ledger.runs();

@@ -16,7 +16,7 @@ returns-in-None c =
     let done = l .lied (k .0) (k .1) in
     let h = c .hear .ensures .heard in
     let who = c .hear .ensures .liars in
-    let same : Same p (viewOf (c .hear .last .self)) = record { servers = h .same .servers ∙ l .same .0; faulty = h .same .faulty ∙ l .same .1; drift = h .same .drift } in
+    let same : Same p (viewOf (c .hear .last .self)) = record { servers = h .same .servers ∙ l .same .0; faulty = h .same .faulty ∙ l .same .1; drift = h .same .drift; naming = h .same .naming } in
     let liars = who .liars ∙ done .1 in
     let lied = who .lied ∙ done .0 in
     let long : w .server < length (p .lied) = omega (arith, k .0, c .args .self .now .cast .small, c .args .self .now .cast .ten) in

@@ -1,7 +1,7 @@
 use mathlib.Core.Path.{_≡_, refl, sym, ap, _∙_}
 use Rattle.choice.specs.Runs.{inRuns, boundsOf}
 use Rattle.play.specs.Scene.{viewOf, wide}
-use Rattle.play.proofs.Acts.{always-said}
+use Rattle.play.proofs.Acts.{always-said, names-all}
 use Rattle.play.proofs.scene.Scene.moment.Needs as need
 
 pub returns : need.returns
@@ -13,6 +13,6 @@ returns c =
       truth = refl;
       said = said;
       width = c .width .ensures .value ∙ ap (λ rs. wide (boundsOf rs)) (c .runs-runs .ensures .value);
-      named = c .named .ensures .exact;
+      named = names-all self (c .named .result) (c .named .ensures .exact);
       always = λ rs es ts h. said ∙ always-said rs es ts self h;
     }

@@ -21,6 +21,6 @@ returns c =
     subst (λ n. Begins n (s .faulty) latest cs row) (c .servers .ensures .value ∙ cast .1)
     (subst (λ f. Begins (c .servers .result) f latest cs row) (c .faulty .ensures .value ∙ cast .2) (c .in-Ok .ensures tt .begins)) in
     record {
-      begins = (grind (arith, tells), begins-world s _ (omega arith) fewer (cast .1) (cast .2) (cast .3) (cast .4) (rate .1) refl refl first (c .in-Ok .ensures tt .says));
+      begins = (grind (arith, tells), begins-world s _ (omega arith) fewer (cast .1) (cast .2) (cast .3) (cast .4) (rate .1) refl refl first (c .in-Ok .ensures tt .says) (c .in-Ok .ensures tt .servers ∙ c .servers .ensures .value ∙ cast .1));
       refuses = tt;
     }

@@ -11,7 +11,7 @@ returns c =
     let count = c .in-Some .ensures tt .1 in
     record {
       answer = grind (arith, tells);
-      after = record { same = record { servers = refl; faulty = refl; drift = refl }; liars = record { liars = refl; lied = refl }; count = count; truth = truth };
+      after = record { same = record { servers = refl; faulty = refl; drift = refl; naming = c .pass .ensures .same .1 }; liars = record { liars = refl; lied = refl }; count = count; truth = truth };
       same = tt;
-      leads = passes-on (c .args .ticks) (c .args .step) _ _ _ _ (sym (c .if-not-allows .ensures tt .value)) (omega arith) (c .stride .ensures .value) count truth (record { servers = refl; faulty = refl; drift = refl }) (record { liars = refl; lied = refl }) (c .pass .ensures .same .0) (c .pass .ensures .passes) (c .pass .ensures .says);
+      leads = passes-on (c .args .ticks) (c .args .step) _ _ _ _ (sym (c .if-not-allows .ensures tt .value)) (omega arith) (c .stride .ensures .value) count truth (record { servers = refl; faulty = refl; drift = refl; naming = c .pass .ensures .same .1 }) (record { liars = refl; lied = refl }) (c .pass .ensures .same .0) (c .pass .ensures .passes) (c .pass .ensures .says);
     }
