@@ -38,6 +38,16 @@ fn print_named(rt: &LibcRuntime, named: u16) -> Result<(), AnyError> {
     Ok(())
 }
 
+// The hand, and whether its time may be.
+fn print_hand(rt: &LibcRuntime, hand: Option<u64>, sound: bool) -> Result<(), AnyError> {
+    let Some(time) = hand else {
+        return Ok(());
+    };
+    let sound = if sound { "sound" } else { "not sound" };
+    print!(rt, " hand {time} {sound}")?;
+    Ok(())
+}
+
 // A moment of the world that is played.
 fn print_moment(rt: &LibcRuntime, scene: &Scene) -> Result<(), AnyError> {
     let moment = scene.moment();
@@ -48,6 +58,7 @@ fn print_moment(rt: &LibcRuntime, scene: &Scene) -> Result<(), AnyError> {
     print!(rt, "count {count} true {truth} {said} width {width}")?;
     print_runs(rt, scene.runs())?;
     print_named(rt, moment.named)?;
+    print_hand(rt, moment.hand, moment.sound)?;
     println!(rt)?;
     Ok(())
 }

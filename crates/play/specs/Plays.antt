@@ -13,7 +13,7 @@ use Rattle.choice.specs.Stands.{Stands}
 use Rattle.script.specs.declared.Settings.{Settings}
 use Rattle.script.specs.declared.Word.{Word}
 use Rattle.ledger.specs.Ledger.{asks, hears, Says, Hears}
-use Rattle.play.specs.Scene.{Played, Same, latest, leastOf, greatestOf}
+use Rattle.play.specs.Scene.{Played, Same, latest, leastOf, greatestOf, handHeard}
 
 -- those who have lied
 abbrev pub liarsOf : List Bool → Faulty
@@ -60,6 +60,7 @@ pub record Heard (p : Played) (w : Word) (q : Played) : Type 0 where
   pub count : q .count ≡ p .count
   pub truth : q .truth ≡ p .truth
   pub choices : q .choices ≡ p .choices
+  pub hand : q .hand ≡ handHeard p q
   pub low : ℕ
   pub high : ℕ
   pub strides : Strides (p .drift) 0 low high

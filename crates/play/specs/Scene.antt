@@ -15,6 +15,8 @@ use Rattle.span.specs.Rate.{allowed}
 use Rattle.span.specs.Span.{ceiling}
 use Rattle.choice.specs.declared.runs.Run.{Run}
 use Rattle.choice.specs.Runs.{inRuns, boundsOf}
+use Rattle.hand.specs.declared.Hand.{Hand}
+use Rattle.hand.specs.Hand.{heard, passed}
 use Rattle.script.specs.declared.Settings.{Settings}
 use Rattle.script.specs.declared.Word.{Word}
 use Rattle.play.specs.declared.scene.Scene.{Scene}
@@ -25,7 +27,7 @@ use Rattle.play.specs.declared.scene.Fault.the-variants.{SettingsRange, Outsid
 abbrev pub latest : ℕ
 latest = 2 ^ 61
 
--- a played world: how many servers there are, may be faulty and have lied, and which; the drift in millionths, the local clock's count and true time; the spans of all choices, and the runs that are said; and for how many servers names are worked out
+-- a played world: how many servers there are, may be faulty and have lied, and which; the drift in millionths, the local clock's count and true time; the spans of all choices, and the runs that are said; for how many servers names are worked out; and the hand
 pub record Played : Type 0 where
   pub servers : ℕ
   pub faulty : ℕ
@@ -38,6 +40,7 @@ pub record Played : Type 0 where
   pub row : List ℕ
   pub runs : List Run
   pub naming : ℕ
+  pub hand : Hand
 
 abbrev pub viewOf : Scene → Played
 viewOf s = record {
@@ -52,6 +55,7 @@ viewOf s = record {
   row = vec-items (s .ledger .here);
   runs = take (s .ledger .said) (vec-items (s .ledger .runs));
   naming = s .ledger .servers;
+  hand = s .hand;
 }
 
 -- settings of a world: one to ten servers, fewer of them faulty, a drift of at most a thousand millionths, a true time that can be at the beginning
@@ -118,6 +122,11 @@ pub record Passed (p : Played) (n u : ℕ) (q : Played) : Type 0 where
   pub liars : SameLiars p q
   pub count : q .count ≡ p .count + n
   pub truth : q .truth ≡ p .truth + u
+  pub hand : q .hand ≡ passed (q .runs) n (p .hand)
+
+-- the hand at an asking, and at the reply that came with no tick between
+abbrev pub handHeard : Played → Played → Hand
+handHeard p q = heard (q .runs) 0 (passed (p .runs) 0 (p .hand))
 
 -- a word was heard: all but the spans has stayed
 pub record Stayed (p q : Played) : Type 0 where
@@ -125,6 +134,7 @@ pub record Stayed (p q : Played) : Type 0 where
   pub liars : SameLiars p q
   pub count : q .count ≡ p .count
   pub truth : q .truth ≡ p .truth
+  pub hand : q .hand ≡ handHeard p q
 
 -- a lie was heard: its server has lied, and all else but the spans has stayed
 pub record Lied (p : Played) (w : Word) (q : Played) : Type 0 where
@@ -133,6 +143,7 @@ pub record Lied (p : Played) (w : Word) (q : Played) : Type 0 where
   pub lied : q .lied ≡ set (p .lied) (w .server) true
   pub count : q .count ≡ p .count
   pub truth : q .truth ≡ p .truth
+  pub hand : q .hand ≡ handHeard p q
 
 -- how wide what is said is
 abbrev pub wide : Option (ℕ × ℕ) → ℕ

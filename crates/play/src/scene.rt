@@ -7,12 +7,14 @@ ghost use Rattle.choice.specs.Runs.{boundsOf};
 ghost use mathlib.Core.Path.{_≡_};
 ghost use Rattle.std.specs.Vec.{made, refused};
 ghost use Rattle.ledger.specs.Ledger.{shows};
+ghost use Rattle.hand.specs.Hand.{soundIn};
 ghost use Rattle.play.specs.Scene.{viewOf, inRange, Answers, passFault, Passed, wordFault, replyFault, lieFault, NotBegun, SameLiars, Stayed, Lied, saidOf, wide, widthOf};
 ghost use Rattle.play.specs.Plays.{rulesOf, Plays, NamesAll, Heard, heardOf, LeadsOn};
 use crate::cast::Cast;
 use choice::runs::Run;
 use choice::runs::bounds;
 use choice::runs::contains;
+use hand::Hand;
 use ledger::Ledger;
 use script::Settings;
 use script::Word;
@@ -51,7 +53,7 @@ pub enum Fault {
     NoMemory,
 }
 
-// What is shown of a moment: the local clock's count, true time, whether it was said, how wide what is said is, and the named servers, as bits of a number.
+// What is shown of a moment: the local clock's count, true time, whether it was said, how wide what is said is, the named servers, as bits of a number, and the hand, and whether its time may be.
 #[derive(Clone, Copy)]
 pub struct Moment {
     pub count: u64,
@@ -59,6 +61,8 @@ pub struct Moment {
     pub said: bool,
     pub width: u64,
     pub named: u16,
+    pub hand: Option<u64>,
+    pub sound: bool,
 }
 
 // How far the greatest time of the runs is from the least; 0 where there is none.
@@ -71,7 +75,7 @@ fn width(runs: &[Run]) -> u64
     }
 }
 
-// A played world now: who is there, the local clock's drift and count, true time, and what is said.
+// A played world now: who is there, the local clock's drift and count, true time, what is said, and the hand.
 #[derive(Drop)]
 pub struct Scene {
     cast: Cast,
@@ -79,6 +83,7 @@ pub struct Scene {
     count: u64,
     truth: u64,
     ledger: Ledger,
+    hand: Hand,
 }
 
 impl Scene {
@@ -105,6 +110,7 @@ impl Scene {
             count: 0,
             truth: settings.truth,
             ledger,
+            hand: Hand::new(),
         })
     }
 
@@ -126,6 +132,7 @@ impl Scene {
             return Err(Fault::PastCount);
         };
         self.ledger.pass(self.drift.stride(ticks));
+        self.hand = self.hand.passed(self.ledger.runs(), ticks);
         self.count = count;
         self.truth = truth;
         Ok(())
@@ -179,8 +186,10 @@ impl Scene {
         ensures liars { λ _. ⌜ SameLiars (viewOf (now (self .entry))) (viewOf (now (self .exit))) ⌝ }
     {
         let still = self.drift.stride(0);
+        let hand = self.hand.passed(self.ledger.runs(), 0);
         let least = word.midpoint.saturating_sub(word.radius);
         self.ledger.hear(still, word.server as u8, least, word.midpoint + word.radius);
+        self.hand = hand.heard(self.ledger.runs(), 0);
     }
 
     // An honest server is asked and heard.
@@ -230,6 +239,8 @@ impl Scene {
         ensures said { λ r. ⌜ r .said ≡ saidOf (viewOf (now (self .entry))) ⌝ }
         ensures width { λ r. ⌜ r .width ≡ widthOf (viewOf (now (self .entry))) ⌝ }
         ensures named { λ r. ⌜ NamesAll (viewOf (now (self .entry))) (r .named) ⌝ }
+        ensures hand { λ r. ⌜ r .hand ≡ now (self .entry) .hand .time ⌝ }
+        ensures sound { λ r. ⌜ r .sound ≡ soundIn (viewOf (now (self .entry)) .runs) (now (self .entry) .hand .time) ⌝ }
         ensures always { λ r. ⌜ ((rs : Rules) (es : List Event) (ts : List ℕ) → Plays rs es ts (viewOf (now (self .entry))) → r .said ≡ true) ⌝ }
     {
         let runs = self.ledger.runs();
@@ -239,6 +250,8 @@ impl Scene {
             said: contains(runs, self.truth),
             width: width(runs),
             named: self.ledger.named(),
+            hand: self.hand.shown(),
+            sound: self.hand.is_sound(runs),
         }
     }
 }

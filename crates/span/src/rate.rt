@@ -22,6 +22,9 @@ pub struct Stride {
 }
 
 impl Drift {
+    // A drift of five hundred millionths.
+    pub const FIVE_HUNDRED: Drift = Drift { millionths: 500 };
+
     // A drift of so many millionths, or none where that is above a thousand.
     pub fn new(millionths: u64) -> Option<Drift>
         ensures cases { λ r. ⌜ Cases r (1000 < millionths) (λ d. (millionths ≤ 1000) × (d .millionths ≡ millionths)) ⌝ }

@@ -22,7 +22,7 @@ returns-in-None c =
     let long : w .server < length (p .lied) = omega (arith, k .0, c .args .self .now .cast .small, c .args .self .now .cast .ten) in
     record {
       answer = none;
-      after = record { same = same; liars = liars; lied = lied; count = h .count; truth = h .truth };
+      after = record { same = same; liars = liars; lied = lied; count = h .count; truth = h .truth; hand = h .hand };
       same = tt;
       leads = lies-on (h .low) (h .high) p (viewOf (c .hear .last .self)) w (k .0) long (c .hear .last .self .cast .few) (omega arith) (h .strides) (h .count) (h .truth) same lied liars (h .choices) (h .hears) (h .says);
     }

@@ -10,7 +10,7 @@ returns-in-None c =
     let h = c .hear .ensures .heard in
     record {
       answer = none;
-      after = record { same = h .same; liars = c .hear .ensures .liars; count = h .count; truth = h .truth };
+      after = record { same = h .same; liars = c .hear .ensures .liars; count = h .count; truth = h .truth; hand = h .hand };
       same = tt;
       leads = replies-on (h .low) (h .high) _ _ (c .args .word .now) (k .0) (k .1) (h .strides) (h .count) (h .truth) (h .same) (c .hear .ensures .liars) (h .choices) (h .hears) (h .says);
     }
