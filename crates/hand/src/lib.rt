@@ -9,8 +9,6 @@ ghost use Rattle.hand.specs.Hand.{fresh, heard, lost, passed, soundIn, stepped
 ghost use Rattle.hand.specs.Steady.{Update, Heard, Passed, Lost, Kept, NeverBack, SoundExact, Stands, AlwaysKept, NeverGoesBack, SlowUnlessForced, FreeUntilHeard, ShowsOnceHeard, NeverPastCeiling, WantsMiddle, OneRun};
 
 mod aim;
-#[cfg(test)]
-mod tests;
 
 use choice::runs::Run;
 
@@ -128,3 +126,6 @@ pub fn hand_stands() -> u8
 {
     0
 }
+
+#[cfg(test)]
+mod tests;

@@ -1,0 +1,3 @@
+-- Lemmas that the answers cite.
+pub mod Cases
+pub mod Texts

@@ -1,0 +1,6 @@
+-- Lemmas that the answers cite.
+mod Again
+mod Back
+mod Lines
+mod Records
+pub mod Runs

@@ -1,0 +1,2 @@
+-- Lemmas that the answers cite.
+mod Putting

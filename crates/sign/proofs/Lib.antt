@@ -1,0 +1,3 @@
+-- Lemmas that the answers cite.
+mod Bytes
+mod Fronts

@@ -1,0 +1,5 @@
+-- Lemmas that the answers cite.
+pub mod Again
+pub mod Back
+mod Inputs
+pub mod Parts
