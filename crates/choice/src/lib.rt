@@ -1,4 +1,6 @@
 // Spans for every choice of faulty servers, what may be by them, and who must be faulty.
+#![tactic(auto)]
+
 pub mod choices;
 pub mod row;
 pub mod runs;

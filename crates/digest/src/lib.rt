@@ -1,4 +1,6 @@
 //! SHA-256 and HMAC-SHA-256, over slices of bytes, without memory of their own.
+#![tactic(auto)]
+
 mod block;
 mod constants;
 mod equal;

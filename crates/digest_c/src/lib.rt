@@ -1,4 +1,6 @@
 //! The hash for callers in C or Rust, to whom an array cannot be returned.
+#![tactic(auto)]
+
 ghost use Rattle.std.specs.Prelude.{◌≡◌, true, length, MatchBool};
 ghost use Rattle.digest.specs.Sha256.{sha256};
 

@@ -1,4 +1,6 @@
 //! Answers lines of hex by hashes in hex: `MESSAGE` by its SHA-256, and `KEY MESSAGE` by the HMAC-SHA-256 under the key.
+#![tactic(auto)]
+
 ghost use Rattle.std.specs.Prelude.{◌≡◌, ℕ, ◌<◌, IfOk, MatchResult, ◌≢◌};
 ghost use Rattle.digest_vectors.specs.Hex.{Coded, Hashed, digit, hex_of};
 

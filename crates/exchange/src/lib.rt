@@ -1,4 +1,6 @@
 // A box's reckoning without bytes: it asks, accepts replies, shows the time and marks events, and says what can be known.
+#![tactic(auto)]
+
 ghost use Rattle.std.specs.Prelude.{◌≤◌, vec_len};
 ghost use Rattle.requests.specs.Pending.{waiting_in};
 ghost use Rattle.requests.specs.Request.{reach_of};

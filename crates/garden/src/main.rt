@@ -1,4 +1,6 @@
 // Plays a script from standard input and prints each moment; a line that is refused ends it.
+#![tactic(auto)]
+
 use anyhow::anyhow;
 use choice::row::is_faulty;
 use choice::runs::Run;

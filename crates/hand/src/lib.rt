@@ -1,4 +1,6 @@
 // The one time that a clock box shows: it never goes back, and it may be the true time whenever that can be.
+#![tactic(auto)]
+
 ghost use Rattle.std.specs.Prelude.{◌≡◌, ◌||◌, List, [], ◌∷◌, length, ◌==◌};
 ghost use Rattle.choice.specs.Runs.{Apart};
 ghost use Rattle.hand.specs.Hand.{fresh, heard, lost, passed, sound_in, stepped};

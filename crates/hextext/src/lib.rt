@@ -1,4 +1,6 @@
 //! Bytes as lines of hexadecimal text, both ways.
+#![tactic(auto)]
+
 mod digits;
 pub mod hex;
 #[cfg(test)]

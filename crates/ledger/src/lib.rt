@@ -1,4 +1,6 @@
 // The spans of all choices now, and what is said by them.
+#![tactic(auto)]
+
 ghost use Rattle.std.specs.Prelude.{◌≡◌, ◌*◌, ◌≤◌, length, take, IfOk, vec_len};
 ghost use Rattle.span.specs.Span.{upto};
 ghost use Rattle.choice.specs.Row.{row_of};

@@ -1,4 +1,6 @@
 // What is said of a past event: what time it can have been at a kept moment, by all that is known of the moments before it and after it.
+#![tactic(auto)]
+
 ghost use Rattle.std.specs.Prelude.{◌≡◌, ◌+◌, ◌*◌, ◌<◌, length, take, drop, None};
 ghost use Rattle.span.specs.Model.{cut_all};
 ghost use Rattle.span.specs.Past.{KnownPastExact};

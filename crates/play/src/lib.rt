@@ -1,4 +1,6 @@
 // Plays a script of the garden: a world that is made up step by step, and what is said in it.
+#![tactic(auto)]
+
 ghost use Rattle.std.specs.Prelude.{◌≡◌, None, OnErr, OnOk};
 ghost use Rattle.std.specs.Option.{option_map};
 ghost use Rattle.script.specs.Script.{statement_of};

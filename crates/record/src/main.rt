@@ -1,4 +1,6 @@
 // Reads settings and a record that the box wrote, and says whether it is as written. No line of a record can be worked out yet: an empty one is as written.
+#![tactic(auto)]
+
 use anyhow::anyhow;
 use std::{env, fs};
 

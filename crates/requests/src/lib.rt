@@ -1,4 +1,6 @@
 // Requests to servers: those that wait for a reply, and those that are closed and still known.
+#![tactic(auto)]
+
 ghost use Rattle.std.specs.Prelude.{◌≡◌, ℕ, ◌+◌, ◌≤◌, length, vec_len, vec_capacity};
 ghost use Rattle.requests.specs.Pending.{waiting_in};
 ghost use Rattle.requests.specs.Request.{known_upto, reach_of};

@@ -1,4 +1,6 @@
 // The statements of a script of the garden, one a line.
+#![tactic(auto)]
+
 ghost use Rattle.std.specs.Prelude.{◌≡◌};
 ghost use Rattle.script.specs.Script.{silent, keyword_of, begin_of, pass_of, word_of, reply_of, lie_of, statement_of};
 ghost use Rattle.script.specs.Words.{NumbersRead};

@@ -1,4 +1,6 @@
 // Spans of times, and how they move on with the local clock and are cut by what is known.
+#![tactic(auto)]
+
 ghost use Rattle.std.specs.Prelude.{◌≡◌, ◌≤◌, T};
 ghost use Rattle.span.specs.Span.{moved, later, earlier, at_most, at_least, meet, is_in, holds_none, span, upto, width_of};
 ghost use Rattle.span.specs.Exact.{StepExact, BackExact, CutExact};

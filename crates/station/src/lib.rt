@@ -1,4 +1,6 @@
 // The box as one machine: a message in, an answer out.
+#![tactic(auto)]
+
 ghost use Rattle.std.specs.Prelude.{◌≡◌, ◌*◌, ◌≤◌, vec_len};
 
 use exchange::Exchange;

@@ -1,4 +1,6 @@
 // The box: reads a message from each line of standard input. It knows none yet, and refuses each as an unknown one.
+#![tactic(auto)]
+
 use std::io::{BufRead, BufReader};
 
 // The message 'refused, for the first reason': an unknown kind.

@@ -1,4 +1,6 @@
 // Moments of a run as a box keeps them, and rows of spans taken through them.
+#![tactic(auto)]
+
 ghost use Rattle.std.specs.Prelude.{◌≡◌, ◌*◌, length};
 ghost use Rattle.choice.specs.Row.{over_row};
 ghost use Rattle.trail.specs.Trail.{cut_row, step_at, walked, RowSteps, RowWalks};

@@ -1,4 +1,6 @@
 // The moments that a box keeps, and the spans of all choices at the oldest of them, at a mark among them, and now.
+#![tactic(auto)]
+
 ghost use Rattle.std.specs.Prelude.{◌≡◌, ◌*◌, ◌≤◌, length, vec_len};
 ghost use Rattle.window.specs.Ring.{kept_in};
 
