@@ -68,7 +68,7 @@ fn tidy(runs: &mut [Run]) -> usize
     ensures same { Ordered runs.old → (t : ℕ) → in_runs t (take result runs.new) ≡ in_runs t runs.old }
     ensures within { result ≤ length runs.old }
 {
-    runs.sort();
+    runs.sort_unstable();
     join(runs)
 }
 

@@ -10,7 +10,7 @@ use Rattle.choice.proofs.Whole.{exact_over_all}
 use Rattle.choice.proofs.Fuller.{full_say, no_rule_says_less}
 use Rattle.choice.proofs.Chosen.{chosen_takes, chosen_leaves, all_full, chosen_few}
 use Rattle.choice.proofs.choices.choices.Goals as goal
-use Rattle.choice.proofs.choices.choices.Goals.{then-choice-faulty+in-ok-push, else-choice-faulty}
+use Rattle.choice.proofs.choices.choices.Goals.{then-choice-faulty+in_ok-push, else-choice-faulty}
 
 pub loop-choice-init : goal.loop-choice-init
 unfolding choice.chosen
@@ -21,9 +21,9 @@ loop-choice-preserved c =
     let f = c.from-faulty.result in
     let k = c.loop-choice.choice in
     elim c.if-choice-faulty.branch [
-      | then-choice-faulty+in-ok-push w ↦
+      | then-choice-faulty+in_ok-push w ↦
           ap vec_items w.all-is
-          ∙ chosen _ _ _ _ w.push.ensures.items (ap is_ok w.in-ok-push.was)
+          ∙ chosen _ _ _ _ w.push.ensures.items (ap is_ok w.in_ok-push.was)
           ∙ ap (λ x. x ++ k ∷ []) c.loop-choice.invariant
           ∙ sym (chosen_takes f k w.if-choice-faulty.true)
           ∙ ap (choice.chosen f) (sym (add-one k))
@@ -54,12 +54,12 @@ returns c =
       few = λ l. omega (arith, c.loop-choice.all.ok.0, ap length items, chosen_few n f c.requires l);
     }
 
-pub returns-in-err-push : goal.returns-in-err-push
-returns-in-err-push c =
-    let none = c.from-residual.ensures.0 in
+pub returns-in_err-push : goal.returns-in_err-push
+returns-in_err-push c =
+    let none = c.from_residual.ensures.0 in
     record {
-      items = IfOk-from_err c.from-residual.result _ none;
-      all = IfOk-from_err c.from-residual.result _ none;
+      items = IfOk-from_err c.from_residual.result _ none;
+      all = IfOk-from_err c.from_residual.result _ none;
       bounds = bounds_lose_nothing;
       known = known_exact;
       whole = exact_over_all;
@@ -67,5 +67,5 @@ returns-in-err-push c =
       wider = more_faulty_wider;
       full = full_say;
       worked = worked;
-      few = IfOk-from_err c.from-residual.result _ none;
+      few = IfOk-from_err c.from_residual.result _ none;
     }

@@ -7,7 +7,7 @@ use Rattle.choice.specs.Row.{named_by}
 use Rattle.choice.proofs.Bits.{choice_below, choice_top}
 use Rattle.choice.proofs.Standing.{names_exact}
 use Rattle.choice.proofs.row.named.Goals as goal
-use Rattle.choice.proofs.row.named.Goals.{then-is-named, else-is-named}
+use Rattle.choice.proofs.row.named.Goals.{then-is_named, else-is-named}
 
 nobody_yet : (p : Faulty) → 0 ≡ choice_of p 0
 unfolding choice_of
@@ -26,9 +26,9 @@ pub loop-server-preserved : goal.loop-server-preserved
 loop-server-preserved c =
     let p : Faulty = λ v. named_by v c.args.choices.now c.args.row.now in
     let n = c.loop-server.server in
-    elim c.if-is-named.branch [
-      | then-is-named w ↦ w.named-is ∙ ap (bit_or c.loop-server.named) (one_shl n 16 (omega (arith, c.requires))) ∙ ap (λ m. bit_or m (2 ^ n)) c.loop-server.invariant ∙ with_bit p n ∙ next p n true w.if-is-named.ensures.value
-      | else-is-named w ↦ w.named-is ∙ c.loop-server.invariant ∙ sym (omega arith) ∙ next p n false w.if-is-named.ensures.value
+    elim c.if-is_named.branch [
+      | then-is_named w ↦ w.named-is ∙ ap (bit_or c.loop-server.named) (one_shl n 16 (omega (arith, c.requires))) ∙ ap (λ m. bit_or m (2 ^ n)) c.loop-server.invariant ∙ with_bit p n ∙ next p n true w.if-is_named.ensures.value
+      | else-is-named w ↦ w.named-is ∙ c.loop-server.invariant ∙ sym (omega arith) ∙ next p n false w.if-is_named.ensures.value
     ]
 
 pub returns : goal.returns

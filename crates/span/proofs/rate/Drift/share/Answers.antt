@@ -3,13 +3,13 @@ use Rattle.span.specs.Rate.{million}
 use Rattle.span.proofs.Products.{cut_in_two, share_below}
 use Rattle.span.proofs.rate.Drift.share.Goals as goal
 
-pub overflow-mul-result : goal.overflow-mul-result
-overflow-mul-result c =
+pub overflow_mul-result : goal.overflow_mul-result
+overflow_mul-result c =
     let k : c.args.self.millionths ≤ 1000 = omega arith in
     omega (arith, mul-le-mul_left (c.args.ticks / million) k)
 
-pub overflow-add-result : goal.overflow-add-result
-overflow-add-result c =
+pub overflow_add-result : goal.overflow_add-result
+overflow_add-result c =
     let k : c.args.self.millionths ≤ 1000 = omega arith in
     omega (arith, mul-le-mul_left (c.args.ticks / million) k, mul-le-mul_left (c.args.ticks % million) k)
 
