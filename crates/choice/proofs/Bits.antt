@@ -1,5 +1,5 @@
 -- Sets of servers as bits of a number: each set is a choice, with as many bits as it has members.
-use Rattle.std.proofs.Common.{◌≡◌, ℕ, zero, suc, ◌+◌, ◌*◌, ◌/◌, ◌%◌, ◌^◌, ◌<◌, ◌≤◌, Bool, true, false, cond, eqb, sym, refl, ap, ◌∙◌, subst, ap₂, ⊎_elim, lt_of_lt_of_le, pow-suc, div-one, one-add, arith, pow_mono, shr-shr}
+use Rattle.std.proofs.Common.{◌≡◌, ℕ, zero, suc, ◌+◌, ◌*◌, ◌/◌, ◌%◌, ◌^◌, ◌<◌, ◌≤◌, Bool, true, false, cond, eqb, sym, refl, ap, ◌∙◌, ap₂, ⊎_elim, lt_of_lt_of_le, pow-suc, div-one, one-add, arith, pow_mono, shr-shr}
 use native.Mathlib.Nat.{pow-zero, div-eq_of_lt}
 use lib.Count.{ones, ones_step}
 use Rattle.std.proofs.lemmas.Bool.Decides.{nat_tests}

@@ -1,13 +1,11 @@
 -- The list of choices with just so many faulty servers: it has all of them and no others, and at most 252.
-use Rattle.std.proofs.Common.{◌≡◌, ℕ, zero, suc, ◌+◌, ◌*◌, ◌^◌, ◌<◌, ◌≤◌, Bool, true, false, cond, ◌&&◌, eqb, leb, ◌⊎◌, List, [], ◌∷◌, ◌++◌, length, get_or, sym, refl, ap, ◌∙◌, subst, ap₂, ⊎_elim, append-nil, add-zero, add-suc, pow-suc, zero-add, mul-one, add-one, arith, length-append}
-use native.Mathlib.Nat.{pow-zero}
+use Rattle.std.proofs.Common.{◌≡◌, ℕ, zero, suc, ◌+◌, ◌^◌, ◌<◌, ◌≤◌, Bool, true, false, cond, ◌&&◌, eqb, leb, ◌⊎◌, List, [], ◌∷◌, ◌++◌, length, get_or, sym, refl, ap, ◌∙◌, subst, ap₂, ⊎_elim, append-nil, add-zero, add-suc, pow-suc, zero-add, arith, length-append}
 use lib.Count.{ones, ones_cat}
 use Rattle.std.proofs.lemmas.List.{get_or_append_left, get_or_push, length_push}
 use Rattle.std.proofs.lemmas.Bool.{eq-eqb, ne_eqb, cases_eq, cases_lt, and_parts, leb-true}
 use Rattle.std.proofs.lemmas.Bool.Decides.{nat_tests}
 use Rattle.span.specs.World.{Rules}
 use Rattle.choice.specs.Choice.{chosen}
-use Rattle.choice.specs.Promise.{Full}
 use Rattle.choice.specs.Stands.{AllFull}
 
 pub chosen_takes : (f c : ℕ) → ones c ≡ f → chosen f (suc c) ≡ chosen f c ++ c ∷ []

@@ -1,15 +1,13 @@
 -- A set of faulty servers can be filled up to any number below that of all servers, past one server that is to stay out.
 use Rattle.std.proofs.Common.{◌≡◌, ℕ, zero, suc, ◌+◌, ◌-◌, ◌<◌, ◌≤◌, Bool, true, false, cond, ◌||◌, T, eqb, List, sym, refl, ap, ◌∙◌, subst, ⊎_elim, arith}
-use lib.Count.{ones}
-use Rattle.std.proofs.lemmas.Bool.Decides.{nat_tests}
 use Rattle.std.proofs.lemmas.Bool.{both_ways, cases_eq, eq-eqb, ne_eqb, or_left, or_right, or_parts, or_from, eqb-false}
 use Rattle.span.specs.World.{Rules, Event, Faulty, how_many}
 use Rattle.span.specs.Span.{is_in, holds_none}
 use Rattle.span.specs.Model.{span_of}
 use Rattle.span.proofs.Paths.{more_faulty_wider}
 use Rattle.choice.specs.Choice.{bit, Allowed, choice_of}
-use Rattle.choice.specs.Said.{May, Named}
-use Rattle.choice.specs.Promise.{Full, FullSay, FullSayAll, NoRuleSaysLess}
+use Rattle.choice.specs.Said.{Named}
+use Rattle.choice.specs.Promise.{Full, FullSayAll, NoRuleSaysLess}
 use Rattle.choice.proofs.Bits.{bit_there, ones_many, many_same, choice_below, choice_bit, choice_ones}
 use Rattle.choice.proofs.Whole.{has_some, some_has, says_no_less}
 

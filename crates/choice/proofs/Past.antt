@@ -1,12 +1,12 @@
 -- What is said of a past moment over all choices is exactly what can have been there.
-use Rattle.std.proofs.Common.{◌≡◌, ℕ, suc, ◌<◌, ◌≤◌, true, T, List, ◌∷◌, length, get_or, sym, refl, ap, ◌∙◌, subst}
-use Rattle.span.specs.World.{Rules, Event, Faulty, World, Way, begins, goes}
+use Rattle.std.proofs.Common.{◌≡◌, ℕ, suc, ◌<◌, ◌≤◌, T, List, ◌∷◌, length, get_or, refl, ◌∙◌, subst}
+use Rattle.span.specs.World.{Rules, Event, Faulty, Way, goes}
 use Rattle.span.specs.Span.{is_in}
 use Rattle.span.specs.Past.{past_of}
 use Rattle.span.proofs.Past.{known_past_exact, more_faulty_past_wider}
 use Rattle.choice.specs.Choice.{bit, Allowed, choice_of}
 use Rattle.choice.specs.Promise.{Full}
-use Rattle.choice.specs.Past.{WorldAt, MayHaveBeen, PastExact, PastExactOverAll, PastNeverWidens}
+use Rattle.choice.specs.Past.{WorldAt, MayHaveBeen, PastExactOverAll, PastNeverWidens}
 use Rattle.choice.proofs.Bits.{bit_there, ones_many, choice_bit}
 use Rattle.choice.proofs.Whole.{chosen}
 use Rattle.choice.proofs.Fuller.{fuller, fuller_full, fuller_more}

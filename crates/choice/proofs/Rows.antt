@@ -1,5 +1,5 @@
 -- A loop over the spans of a row, and what it makes of the row of a run.
-use Rattle.std.proofs.Common.{◌≡◌, ℕ, zero, suc, ◌+◌, ◌*◌, ◌<◌, ◌≤◌, min, max, Bool, true, false, cond, ◌&&◌, ◌||◌, leb, List, [], ◌∷◌, ◌++◌, length, get_or, take, drop, set, sym, refl, ap, ◌∙◌, subst, ap₂, append_assoc, add-zero, zero-add, add-one, arith, length-drop, take-append-drop}
+use Rattle.std.proofs.Common.{◌≡◌, ℕ, suc, ◌+◌, ◌*◌, ◌<◌, ◌≤◌, min, max, Bool, true, false, cond, ◌&&◌, ◌||◌, leb, List, [], ◌∷◌, ◌++◌, length, get_or, take, drop, set, sym, refl, ap, ◌∙◌, ap₂, append_assoc, add-zero, zero-add, add-one, arith, length-drop, take-append-drop}
 use Rattle.std.proofs.lemmas.List.{length-set, drop_more, drop_all, take_more_set, drop-set-lt}
 use Rattle.std.proofs.lemmas.Bool.{le-leb}
 use Rattle.span.specs.declared.Span.{Span}
@@ -11,7 +11,7 @@ use Rattle.span.specs.Model.{Claim, Moment, AtMost, AtLeast, plain, cut_by, cut_
 use Rattle.span.proofs.Steps.{stride_later}
 use Rattle.choice.specs.declared.row.Claim as code
 use Rattle.choice.specs.Choice.{bit}
-use Rattle.choice.specs.Row.{low_of, high_of, span_at, over_row, row_of, row_through, cut_at, any_span, named_by}
+use Rattle.choice.specs.Row.{low_of, high_of, span_at, over_row, row_of, cut_at, any_span, named_by}
 use Rattle.choice.specs.Moves.{claim_of, RowFills, RowMoves, RowCuts}
 
 -- two places from an even one on

@@ -1,31 +1,20 @@
 -- Runs that were sorted are in increasing order, and hold what they held.
-use Rattle.std.proofs.Common.{◌≡◌, ℕ, zero, suc, ◌+◌, ◌<◌, ◌≤◌, Bool, true, false, cond, ◌||◌, ltb, List, [], ◌∷◌, length, get_or, sum_by, Less, sym, refl, ap, ◌∙◌, subst, ap₂, ⊎_elim, arith}
-use Rattle.std.specs.Cmp.{IsTotalOrder, nat_cmp_total, pairs}
+use Rattle.std.proofs.Common.{◌≡◌, ℕ, suc, ◌+◌, ◌<◌, ◌≤◌, Bool, true, false, cond, ◌||◌, ltb, List, [], ◌∷◌, length, get_or, sum_by, Ordering, Less, sym, refl, ap, ◌∙◌, subst, ⊎_elim, arith}
+use Rattle.std.specs.Cmp.{nat_cmp_is}
 use Rattle.std.specs.Ordering.{is_lt, ordering_then, nat_cmp}
-use Rattle.std.specs.List.{AllByRecursion as All}
 use Rattle.std.specs.List.Sorted.{IsPermutation, IsSortedWithin}
 use Rattle.std.proofs.lemmas.List.Sums.{sum_by-cons}
 use Rattle.std.proofs.lemmas.List.Sorted.{sum_by-IsPermutation}
 use Rattle.std.proofs.ByRecursion.{all_shuffled}
 use Rattle.std.proofs.lemmas.Bool.{both_ways, cases_lt}
 use Rattle.std.proofs.lemmas.Bool.Decides.{nat_tests}
-use Rattle.choice.specs.contracts.runs.RunOrd as RunOrd
 use Rattle.choice.specs.declared.runs.Run.{Run}
 use Rattle.choice.specs.Runs.{in_run, in_runs, Ordered, Apart, joined}
 use Rattle.choice.proofs.Joins.{LowFrom, joined_same, joined_apart}
 
-abbrev key : Run → ℕ × ℕ
-key r = (r.lo, r.hi)
-
 -- the order of runs is that of their ends, the lower first
-pub by_ends : IsTotalOrder (RunOrd.TheImpl.ghosts).cmp
-by_ends = record {
-  cmp = λ x y. ordering_then (nat_cmp (key x).0 (key y).0) (nat_cmp (key x).1 (key y).1);
-  says = λ x y r h. grind (arith, nat_tests);
-  flip = λ x y. (pairs nat_cmp_total nat_cmp_total).antisymm (key x) (key y);
-  trans = λ x y z. (pairs nat_cmp_total nat_cmp_total).trans (key x) (key y) (key z);
-  alike = λ x y z. (pairs nat_cmp_total nat_cmp_total).congr (key x) (key y) (key z);
-}
+abbrev pub by_ends : Run → Run → Ordering
+by_ends x y = ordering_then (nat_cmp x.lo y.lo) (nat_cmp x.hi y.hi)
 
 -- a time is in one of the runs exactly if they that have it are more than none
 abbrev hit : ℕ → Run → ℕ
@@ -43,19 +32,18 @@ pub shuffled_same : (t : ℕ) (rs ss : List Run) → IsPermutation rs ss → in_
 shuffled_same t rs ss h = counted t ss ∙ ap (ltb 0) (sum_by-IsPermutation (hit t) rs ss h) ∙ sym (counted t rs)
 
 -- sorted runs rise by their lower ends
-not_below : (x y : Run) → is_lt (by_ends.cmp y x) ≡ false → x.lo ≤ y.lo
-unfolding by_ends
-not_below x y h = ⊎_elim (λ less. absurd (both_ways (is_lt (by_ends.cmp y x)) h (below less))) (λ k. k) (cases_lt y.lo x.lo) where
-  below : y.lo < x.lo → is_lt (by_ends.cmp y x) ≡ true
-  below l = ap (λ k. is_lt (ordering_then k (nat_cmp y.hi x.hi))) (sym (nat_cmp_total.says y.lo x.lo Less l))
+not_below : (x y : Run) → is_lt (by_ends y x) ≡ false → x.lo ≤ y.lo
+not_below x y h = ⊎_elim (λ less. absurd (both_ways (is_lt (by_ends y x)) h (below less))) (λ k. k) (cases_lt y.lo x.lo) where
+  below : y.lo < x.lo → is_lt (by_ends y x) ≡ true
+  below l = ap (λ k. is_lt (ordering_then k (nat_cmp y.hi x.hi))) (sym (nat_cmp_is y.lo x.lo Less l))
 
 abbrev Up : List Run → Type 0
-Up rs = IsSortedWithin (λ x y. is_lt (by_ends.cmp x y)) rs 0 (length rs)
+Up rs = IsSortedWithin (λ x y. is_lt (by_ends x y)) rs 0 (length rs)
 
 up_rest : (r : Run) (rs : List Run) → Up (r ∷ rs) → Up rs
 up_rest r rs up k d l h =
     let e : suc k + 1 ≡ suc (k + 1) = omega arith in
-    subst (λ i. is_lt (by_ends.cmp (get_or (r ∷ rs) i d) (get_or rs k d)) ≡ false) e (up (suc k) d (omega arith) (omega arith))
+    subst (λ i. is_lt (by_ends (get_or (r ∷ rs) i d) (get_or rs k d)) ≡ false) e (up (suc k) d (omega arith) (omega arith))
 
 nexts : (r : Run) (rs : List Run) → Ordered (r ∷ rs) → Up (r ∷ rs) → LowFrom r.lo rs
 nexts r [] o up = tt

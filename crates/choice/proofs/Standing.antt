@@ -1,18 +1,16 @@
 -- What is read off a row that stands for a run is exact.
-use Rattle.std.proofs.Common.{◌≡◌, ℕ, zero, suc, ◌+◌, ◌^◌, ◌<◌, ◌≤◌, Bool, true, false, cond, not, ◌&&◌, ◌||◌, T, List, [], ◌∷◌, length, get_or, Decides, sym, refl, ap, ◌∙◌, subst, ap₂, ⊎_elim, arith}
-use lib.Count.{ones}
-use Rattle.std.proofs.lemmas.Bool.{both_ways, or_cases, or_left, or_right, and_parts, and_from, not-true, not-false, not_from_false}
+use Rattle.std.proofs.Common.{◌≡◌, ℕ, zero, suc, ◌^◌, ◌<◌, Bool, true, false, ◌||◌, T, List, [], ◌∷◌, length, get_or, Decides, sym, refl, ap, ◌∙◌, subst, ⊎_elim, arith}
+use Rattle.std.proofs.lemmas.Bool.{both_ways, or_cases, or_left, or_right, and_parts, and_from, not-true, not_from_false}
 use Rattle.span.specs.declared.Span.{Span}
 use Rattle.span.specs.World.{Rules, Event, World}
 use Rattle.span.specs.Span.{is_in, holds_none, span}
-use Rattle.span.specs.Model.{moments, through, span_of}
+use Rattle.span.specs.Model.{moments, span_of}
 use Rattle.choice.specs.Choice.{bit, Allowed, choice_of}
-use Rattle.choice.specs.Said.{May, Named}
 use Rattle.choice.specs.Promise.{Full, FaultyInAll, NoWorld}
-use Rattle.choice.specs.Row.{low_of, high_of, row_of, row_through, any_span, has_times, named_by}
-use Rattle.choice.specs.Stands.{AllFull, Stands, MayExact, LeftExact, NamedExact, NamesExact}
+use Rattle.choice.specs.Row.{low_of, high_of, row_of, any_span, has_times, named_by}
+use Rattle.choice.specs.Stands.{Stands, MayExact, LeftExact, NamedExact, NamesExact}
 use Rattle.choice.proofs.Bits.{bit_there, choice_below, choice_bit}
-use Rattle.choice.proofs.Whole.{has_some, some_has, world_may, may_world, choice_world, exact_over_all}
+use Rattle.choice.proofs.Whole.{has_some, some_has, world_may, choice_world, exact_over_all}
 use Rattle.choice.proofs.Fuller.{full_say}
 use Rattle.choice.proofs.Rows.{Kept, kept_through}
 

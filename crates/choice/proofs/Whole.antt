@@ -1,17 +1,16 @@
 -- What is said is exactly what can be: worlds and choices with a span are the same.
-use Rattle.std.proofs.Common.{◌≡◌, ℕ, ◌+◌, ◌<◌, ◌≤◌, Bool, true, false, cond, T, List, sym, refl, ap, ◌∙◌, subst, le_refl, arith}
-use lib.Count.{ones}
+use Rattle.std.proofs.Common.{◌≡◌, ℕ, ◌≤◌, Bool, true, false, T, List, sym, refl, ◌∙◌, subst, arith}
 use Rattle.std.proofs.lemmas.Bool.Decides.{nat_tests}
 use Rattle.std.proofs.lemmas.Bool.{both_ways}
 use Rattle.span.specs.declared.Span.{Span}
 use Rattle.span.specs.declared.Span.TheVariants.{Between, Empty}
-use Rattle.span.specs.World.{Rules, Event, World, Faulty, how_many}
+use Rattle.span.specs.World.{Rules, Event, World}
 use Rattle.span.specs.Span.{is_in, holds_none}
 use Rattle.span.specs.Model.{span_of}
 use Rattle.span.proofs.Paths.{known_exact, more_faulty_wider}
 use Rattle.choice.specs.Choice.{bit, Allowed, choice_of}
 use Rattle.choice.specs.Said.{May, Named, NoneLeft}
-use Rattle.choice.specs.Promise.{FaultyInAll, NoWorld, Exact, ExactOverAll, SaysNoLess}
+use Rattle.choice.specs.Promise.{FaultyInAll, NoWorld, ExactOverAll, SaysNoLess}
 use Rattle.choice.proofs.Bits.{bit_there, ones_many, choice_below, choice_bit, choice_ones}
 
 -- a span that holds a time is not empty, and one that is not empty holds one

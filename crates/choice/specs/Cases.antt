@@ -5,9 +5,9 @@ use Rattle.span.specs.declared.Span.TheVariants.{Between}
 use Rattle.span.specs.Rate.{least, most}
 use Rattle.span.specs.Span.{later}
 use Rattle.span.specs.World.{Event, Rules, Asks, Accepts}
-use Rattle.span.specs.Model.{moments, span_of}
+use Rattle.span.specs.Model.{moments}
 use Rattle.choice.specs.declared.runs.Run.{Run}
-use Rattle.choice.specs.Choice.{bit, choice_of, chosen}
+use Rattle.choice.specs.Choice.{choice_of, chosen}
 use Rattle.choice.specs.Row.{row_through, named_by}
 use Rattle.choice.specs.Runs.{runs_in, joined}
 

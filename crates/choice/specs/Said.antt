@@ -1,5 +1,5 @@
 -- What is said after a run: which times it may be, and which servers are named.
-use Rattle.std.specs.Prelude.{◌≡◌, ℕ, Bool, true, false, T, List}
+use Rattle.std.specs.Prelude.{◌≡◌, ℕ, true, false, T, List}
 use Rattle.span.specs.World.{Rules, Event}
 use Rattle.span.specs.Span.{is_in, holds_none}
 use Rattle.span.specs.Model.{span_of}

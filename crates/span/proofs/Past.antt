@@ -1,9 +1,8 @@
 -- For known faulty servers: the span of a past moment is exactly the times that true time can have been then.
-use Rattle.std.proofs.Common.{◌≡◌, ℕ, zero, suc, ◌+◌, ◌<◌, ◌≤◌, true, T, List, [], ◌∷◌, length, get_or, take, drop, sym, refl, ap, ◌∙◌, subst, le_refl, arith}
+use Rattle.std.proofs.Common.{◌≡◌, ℕ, zero, suc, ◌<◌, ◌≤◌, T, List, [], ◌∷◌, length, get_or, take, drop, sym, refl, ap, ◌∙◌, subst, arith}
 use Rattle.span.specs.Rate.{Fits}
-use Rattle.span.specs.World.{Deed, Event, Rules, Faulty, Way, Shows, Marks, Asks, Accepts}
+use Rattle.span.specs.World.{Deed, Event, Rules, Faulty, Shows, Marks, Asks, Accepts}
 use Rattle.span.specs.Span.{is_in, ceiling, upto, earlier}
-use Rattle.span.specs.Exact.{BackExact, CutExact}
 use Rattle.span.specs.Model.{Moment, put, moments_by, moments, cut_all, through}
 use Rattle.span.specs.Past.{back_through, past_of, KnownPastExact, MoreFaultyPastWider}
 use Rattle.span.specs.declared.Span.{Span}

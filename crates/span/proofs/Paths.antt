@@ -1,12 +1,11 @@
 -- For known faulty servers: the span through all moments is exactly the times to which true time can have gone.
-use Rattle.std.proofs.Common.{◌≡◌, ℕ, zero, suc, ◌+◌, ◌-◌, ◌<◌, ◌≤◌, max, Bool, true, false, cond, T, leb, List, [], ◌∷◌, get_or, sym, refl, ap, ◌∙◌, subst, le_trans, arith}
+use Rattle.std.proofs.Common.{◌≡◌, ℕ, zero, suc, ◌≤◌, max, Bool, true, false, cond, T, List, [], ◌∷◌, get_or, sym, refl, subst, le_trans, arith}
 use Rattle.std.proofs.lemmas.Bool.Decides.{nat_tests}
 use Rattle.std.proofs.lemmas.Bool.{both_ways}
-use Rattle.span.specs.Rate.{Fits, least}
-use Rattle.span.specs.Span.{is_in, later, upto, at_most, at_least, ceiling}
-use Rattle.span.specs.Exact.{StepExact, CutExact}
+use Rattle.span.specs.Rate.{Fits}
+use Rattle.span.specs.Span.{is_in, at_most, at_least, ceiling}
 use Rattle.span.specs.World.{Deed, Event, Rules, Faulty, Made, Told, Way, Shows, Marks, Asks, Accepts, begins, goes}
-use Rattle.span.specs.Model.{Claim, Moment, AtMost, AtLeast, plain, put, lowest, moments_by, moments, cut_by, cut_all, through, span_of}
+use Rattle.span.specs.Model.{Claim, Moment, AtMost, AtLeast, put, lowest, moments_by, moments, cut_by, cut_all, through}
 use Rattle.span.specs.Known.{BoundsLoseNothing, KnownExact, MoreFaultyWider}
 use Rattle.span.specs.declared.Span.{Span}
 use Rattle.span.proofs.Products.{fits_between}

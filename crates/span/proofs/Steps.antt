@@ -1,7 +1,7 @@
 -- A step through the drift and the cuts of a span are exact.
-use Rattle.std.proofs.Common.{◌≡◌, ℕ, ◌+◌, ◌-◌, ◌*◌, ◌^◌, ◌<◌, ◌≤◌, min, max, true, false, T, leb, refl, arith}
+use Rattle.std.proofs.Common.{◌≡◌, ℕ, ◌+◌, ◌-◌, ◌^◌, ◌≤◌, min, max, T, refl, arith}
 use Rattle.std.proofs.lemmas.Bool.Decides.{nat_tests}
-use Rattle.span.specs.Rate.{million, Fits, Strides, least, most}
+use Rattle.span.specs.Rate.{Fits, Strides, least, most}
 use Rattle.span.specs.Span.{is_in, moved, later, earlier, moved_back, upto, at_most, at_least, meet, span, ceiling}
 use Rattle.span.specs.Exact.{StepExact, BackExact, CutExact}
 use Rattle.span.specs.declared.Span.{Span}

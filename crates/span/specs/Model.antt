@@ -1,5 +1,5 @@
 -- What is worked out of a run: its moments with the bounds that are known of them and, for known faulty servers, the span of times from the beginning through all of them to now.
-use Rattle.std.specs.Prelude.{ℕ, zero, suc, ◌+◌, Bool, cond, List, [], ◌∷◌, nat_le}
+use Rattle.std.specs.Prelude.{ℕ, zero, suc, ◌+◌, cond, List, [], ◌∷◌, nat_le}
 use Rattle.span.specs.World.{Deed, Event, Rules, Faulty, Shows, Marks, Asks, Accepts}
 use Rattle.span.specs.Span.{ceiling, upto, later, at_most, at_least}
 use Rattle.span.specs.declared.Span.{Span}

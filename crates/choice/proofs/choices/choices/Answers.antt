@@ -1,9 +1,9 @@
-use Rattle.std.proofs.Common.{◌≡◌, ◌^◌, [], ◌∷◌, ◌++◌, length, is_ok, vec_items, sym, refl, ap, ◌∙◌, subst, add-one, arith}
+use Rattle.std.proofs.Common.{◌≡◌, ◌^◌, [], ◌∷◌, ◌++◌, length, is_ok, vec_items, sym, ap, ◌∙◌, subst, add-one, arith}
 use Rattle.std.proofs.ResultArms.{chosen}
 use Rattle.std.proofs.lemmas.Nat.{one_shl}
 use Rattle.std.proofs.lemmas.Result.{IfOk-from_err}
 use Rattle.choice.specs.Choice as choice
-use Rattle.choice.specs.Stands.{AllChosen, AllFull}
+use Rattle.choice.specs.Stands.{AllFull}
 use Rattle.choice.proofs.Table.{worked}
 use Rattle.span.proofs.Paths.{bounds_lose_nothing, known_exact, more_faulty_wider}
 use Rattle.choice.proofs.Whole.{exact_over_all}

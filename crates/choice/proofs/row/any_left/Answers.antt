@@ -1,6 +1,6 @@
-use Rattle.std.proofs.Common.{◌≡◌, not, sym, refl, ap, ◌∙◌, arith}
-use Rattle.span.specs.Span.{is_in, holds_none}
-use Rattle.choice.specs.Row.{has_times, any_span}
+use Rattle.std.proofs.Common.{not, sym, ap, ◌∙◌, arith}
+use Rattle.span.specs.Span.{holds_none}
+use Rattle.choice.specs.Row.{has_times}
 use Rattle.choice.proofs.Rows.{any_hit, any_miss, any_end}
 use Rattle.choice.proofs.Standing.{left_exact}
 use Rattle.choice.proofs.row.any_left.Goals as goal

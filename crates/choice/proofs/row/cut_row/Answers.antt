@@ -1,4 +1,4 @@
-use Rattle.std.proofs.Common.{◌≡◌, get_or, sym, refl, ap, ◌∙◌, subst, arith}
+use Rattle.std.proofs.Common.{get_or, sym, ap, ◌∙◌, subst, arith}
 use Rattle.span.specs.Model.{cut_by}
 use Rattle.choice.specs.Choice.{bit}
 use Rattle.choice.specs.Row.{cut_at}

@@ -1,4 +1,4 @@
-use Rattle.std.proofs.Common.{◌≡◌, sym, refl, ◌∙◌, subst, arith}
+use Rattle.std.proofs.Common.{sym, refl, ◌∙◌, subst, arith}
 use Rattle.choice.specs.Moves.{RowFills}
 use Rattle.choice.proofs.Rows.{over_step, over_end, row_fills}
 use Rattle.choice.proofs.row.fill_row.Goals as goal

@@ -1,4 +1,4 @@
-use Rattle.std.proofs.Common.{◌≡◌, ◌||◌, get_or, sym, ap, ◌∙◌, subst, arith}
+use Rattle.std.proofs.Common.{◌||◌, get_or, sym, ap, ◌∙◌, arith}
 use Rattle.span.specs.Span.{holds_none}
 use Rattle.choice.specs.Choice.{bit}
 use Rattle.choice.proofs.Rows.{named_hit, named_miss, named_end}

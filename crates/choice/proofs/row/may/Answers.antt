@@ -1,6 +1,5 @@
-use Rattle.std.proofs.Common.{◌≡◌, not, sym, refl, ap, ◌∙◌, arith}
-use Rattle.span.specs.Span.{is_in, holds_none}
-use Rattle.choice.specs.Row.{has_times, any_span}
+use Rattle.std.proofs.Common.{sym, ap, ◌∙◌, arith}
+use Rattle.span.specs.Span.{is_in}
 use Rattle.choice.proofs.Rows.{any_hit, any_miss, any_end}
 use Rattle.choice.proofs.Standing.{may_exact}
 use Rattle.choice.proofs.row.may.Goals as goal

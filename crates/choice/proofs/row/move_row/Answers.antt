@@ -1,6 +1,5 @@
-use Rattle.std.proofs.Common.{◌≡◌, sym, refl, ap, ◌∙◌, subst, arith}
+use Rattle.std.proofs.Common.{sym, ap, ◌∙◌, subst, arith}
 use Rattle.span.specs.Span.{moved}
-use Rattle.choice.specs.Row.{over_row}
 use Rattle.choice.specs.Moves.{RowMoves}
 use Rattle.choice.proofs.Rows.{over_step, over_end, row_moves}
 use Rattle.choice.proofs.row.move_row.Goals as goal

@@ -1,4 +1,4 @@
-use Rattle.std.proofs.Common.{◌≡◌, ℕ, suc, ◌+◌, ◌*◌, ◌%◌, ◌^◌, ◌<◌, ◌≤◌, Bool, true, false, cond, sym, refl, ap, ◌∙◌, subst, add-one, arith}
+use Rattle.std.proofs.Common.{◌≡◌, ℕ, ◌+◌, ◌^◌, Bool, true, false, cond, sym, refl, ap, ◌∙◌, add-one, arith}
 use lib.Bits.{bit_or}
 use Rattle.std.proofs.lemmas.Nat.{or_comm, or_shifted, one_shl}
 use Rattle.span.specs.World.{Faulty}
@@ -7,7 +7,7 @@ use Rattle.choice.specs.Row.{named_by}
 use Rattle.choice.proofs.Bits.{choice_below, choice_top}
 use Rattle.choice.proofs.Standing.{names_exact}
 use Rattle.choice.proofs.row.named.Goals as goal
-use Rattle.choice.proofs.row.named.Goals.{then-is_named, else-is-named}
+use Rattle.choice.proofs.row.named.Goals.{then-is_named, else-is_named}
 
 nobody_yet : (p : Faulty) → 0 ≡ choice_of p 0
 unfolding choice_of
@@ -28,7 +28,7 @@ loop-server-preserved c =
     let n = c.loop-server.server in
     elim c.if-is_named.branch [
       | then-is_named w ↦ w.named-is ∙ ap (bit_or c.loop-server.named) (one_shl n 16 (omega (arith, c.requires))) ∙ ap (λ m. bit_or m (2 ^ n)) c.loop-server.invariant ∙ with_bit p n ∙ next p n true w.if-is_named.ensures.value
-      | else-is-named w ↦ w.named-is ∙ c.loop-server.invariant ∙ sym (omega arith) ∙ next p n false w.if-is_named.ensures.value
+      | else-is_named w ↦ w.named-is ∙ c.loop-server.invariant ∙ sym (omega arith) ∙ next p n false w.if-is_named.ensures.value
     ]
 
 pub returns : goal.returns

@@ -1,4 +1,4 @@
-use Rattle.std.proofs.Common.{◌≡◌, sym, ◌∙◌, arith}
+use Rattle.std.proofs.Common.{sym, ◌∙◌, arith}
 use Rattle.choice.proofs.Joins.{in_hit, in_miss, in_end}
 use Rattle.choice.proofs.runs.contains.Goals as goal
 

@@ -1,4 +1,4 @@
-use Rattle.std.proofs.Common.{◌≡◌, ◌+◌, ◌*◌, ◌≤◌, ◌++◌, take, drop, sym, ap, ◌∙◌, ap₂, arith}
+use Rattle.std.proofs.Common.{◌+◌, ◌*◌, ◌++◌, take, drop, sym, ap, ◌∙◌, ap₂, arith}
 use Rattle.choice.specs.Runs.{runs_in}
 use Rattle.choice.proofs.Joins.{gather_put, gather_skip, gather_end}
 use Rattle.choice.proofs.runs.gather.Goals as goal

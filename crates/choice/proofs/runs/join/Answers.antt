@@ -1,11 +1,11 @@
-use Rattle.std.proofs.Common.{◌≡◌, ◌+◌, ◌-◌, ◌<◌, ◌≤◌, List, [], ◌∷◌, ◌++◌, length, get_or, take, drop, sym, refl, ap, ◌∙◌, arith}
+use Rattle.std.proofs.Common.{◌≡◌, ◌-◌, ◌<◌, ◌≤◌, List, [], ◌∷◌, length, get_or, sym, refl, ◌∙◌, arith}
 use Rattle.std.proofs.lemmas.List.{length-set}
 use Rattle.std.proofs.lemmas.Bool.{eqb-true, eqb-false}
 use Rattle.choice.specs.declared.runs.Run.{Run}
-use Rattle.choice.specs.Runs.{joined, joined_to}
+use Rattle.choice.specs.Runs.{joined}
 use Rattle.choice.proofs.Joins.{none, join_starts, join_closes, join_grows, join_ends}
 use Rattle.choice.proofs.runs.join.Goals as goal
-use Rattle.choice.proofs.runs.join.Goals.{then-saturating_sub-gt1, else-saturating-sub-gt1}
+use Rattle.choice.proofs.runs.join.Goals.{then-saturating_sub-gt1, else-saturating_sub-gt1}
 
 nothing_joined : (rs : List Run) → length rs ≡ 0 → [] ≡ joined rs
 unfolding joined
@@ -29,7 +29,7 @@ loop-i-preserved c =
           (let apart : 1 < (get_or runs i none).lo - c.loop-i.wide.hi = omega (arith, w.if-saturating_sub-gt1.true, c.saturating_sub.ensures) in
           let e = join_closes c.loop-i.n i runs c.loop-i.wide c.loop-i.invariant.0 (omega arith) apart in
           (omega (arith, w.n-is, c.loop-i.invariant.0), cc (e, w.n-is, w.runs-is, w.wide-is, c.loop-i.invariant.1)))
-      | else-saturating-sub-gt1 w ↦
+      | else-saturating_sub-gt1 w ↦
           (let beside : (get_or runs i none).lo - c.loop-i.wide.hi ≤ 1 = omega (arith, w.if-saturating_sub-gt1.false, c.saturating_sub.ensures) in
           let e = join_grows c.loop-i.n i runs c.loop-i.wide (omega arith) beside in
           (omega (arith, w.n-is, c.loop-i.invariant.0), cc (e, w.n-is, w.runs-is, w.wide-is, c.loop-i.invariant.1)))
