@@ -1,5 +1,5 @@
 -- What a line of a script says.
-use Rattle.std.specs.Prelude.{ℕ, Bool, true, false, cond, List, [], ◌∷◌, Ok, Err, codes, Result, ◌==◌}
+use Rattle.std.specs.Prelude.{ℕ, Bool, true, cond, List, [], ◌∷◌, Ok, Err, codes, Result, ◌==◌}
 use Rattle.std.specs.Str.{bytes_eq}
 use Rattle.script.specs.Words.{first_word, after_word, and_then, two, three, four}
 use Rattle.script.specs.declared.words.Unread.{Unread}
@@ -9,7 +9,6 @@ use Rattle.script.specs.declared.Keyword.{Keyword}
 use Rattle.script.specs.declared.Keyword.TheVariants.{Comment, Settings, Pass, Reply, Lie}
 use Rattle.script.specs.declared.Statement.{Statement}
 use Rattle.script.specs.declared.Statement.TheVariants.{Nothing, Begin}
-use Rattle.script.specs.declared.Statement.TheVariants as Statement
 
 -- no word, or a comment
 abbrev pub silent : List ℕ → Bool

@@ -1,7 +1,7 @@
 -- The words and numbers of a line of a script, the line being the list of its bytes.
-use Rattle.std.specs.Prelude.{◌≡◌, ℕ, suc, ◌+◌, ◌-◌, ◌*◌, ◌^◌, ◌<◌, Bool, true, false, cond, not, ◌&&◌, ◌||◌, List, [], ◌∷◌, length, take, drop, Ok, Err, decimal, Result, ◌==◌, nat_le, nat_lt}
+use Rattle.std.specs.Prelude.{◌≡◌, ℕ, suc, ◌+◌, ◌-◌, ◌*◌, ◌^◌, ◌<◌, Bool, true, false, cond, ◌&&◌, ◌||◌, List, [], ◌∷◌, length, take, drop, Ok, Err, decimal, Result, ◌==◌, nat_le, nat_lt}
 use Rattle.script.specs.declared.words.Unread.{Unread}
-use Rattle.script.specs.declared.words.Unread.TheVariants.{UnknownWord, MissingNumber, NoNumber, TooLarge, TooMuch}
+use Rattle.script.specs.declared.words.Unread.TheVariants.{MissingNumber, NoNumber, TooLarge, TooMuch}
 
 -- words stand apart by spaces and tabs
 abbrev pub is_blank : ℕ → Bool

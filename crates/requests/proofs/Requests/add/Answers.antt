@@ -8,8 +8,8 @@ use Rattle.requests.proofs.Requests.add.Goals as goal
 pub push-requires : goal.push-requires
 push-requires c = omega (arith, c.requires 0)
 
-pub invariant-of-self : goal.invariant-of-self
-invariant-of-self c =
+pub invariant_of-self : goal.invariant_of-self
+invariant_of-self c =
     let q = c.args.self.now in
     let new : Request = record { server = c.args.server; nonce = c.args.nonce; count = c.args.count; since = 0 } in
     let long = length-append (waiting_in q.pending) (new ∷ []) in

@@ -2,9 +2,9 @@ use Rattle.std.proofs.Common.{◌≡◌, length, sym, ap, ◌∙◌, arith}
 use Rattle.requests.specs.Request.{known_upto, reach_of}
 use Rattle.requests.proofs.Requests.new.Goals as goal
 
-pub invariant-of-result : goal.invariant-of-result
+pub invariant_of-result : goal.invariant_of-result
 unfolding known_upto reach_of
-invariant-of-result c =
+invariant_of-result c =
     let none = c.new.ensures.waiting in
-    let m = c.in-ok-closed.ensures in
+    let m = c.in_ok-closed.ensures in
     (omega (arith, ap reach_of none), (m.capacity, (λ k. omega (arith, ap length none, ap (known_upto k) m.items), (ap (known_upto 64) m.items ∙ sym m.len, tt))))

@@ -5,20 +5,20 @@ use Rattle.requests.specs.Pending.{waiting_in}
 use Rattle.requests.proofs.Known.{few_later, kept_fresh, reach_later}
 use Rattle.requests.proofs.Requests.tick.Goals as goal
 
-pub invariant-of-self : goal.invariant-of-self
-invariant-of-self c =
+pub invariant_of-self : goal.invariant_of-self
+invariant_of-self c =
     let q = c.args.self.now in
     let ps = waiting_in q.pending in
     let cs = vec_items q.closed in
     let later = c.later.ensures.waiting in
-    let known = c.known-later.ensures.items in
+    let known = c.known_later.ensures.items in
     let long = length-map ps later_by in (
       omega (arith, ap reach_of later, reach_later ps, c.requires),
       (
-        omega (arith, q.room, c.known-later.ensures.room),
+        omega (arith, q.room, c.known_later.ensures.room),
         (
           λ k. omega (arith, ap length later, ap (known_upto k) known, (few_later (length ps) cs q.few k).0),
-          (ap (known_upto 64) known ∙ kept_fresh (map known_later cs) ∙ sym (ap length known) ∙ sym c.known-later.new.closed.ok.0, tt),
+          (ap (known_upto 64) known ∙ kept_fresh (map known_later cs) ∙ sym (ap length known) ∙ sym c.known_later.new.closed.ok.0, tt),
         ),
       ),
     )
@@ -29,7 +29,7 @@ returns c =
     let ps = waiting_in q.pending in
     let cs = vec_items q.closed in
     let later = c.later.ensures.waiting in
-    let known = c.known-later.ensures.items in
+    let known = c.known_later.ensures.items in
     let long = length-map ps later_by in
     record {
       value = ap₂ (λ a b. record { pending = a; closed = b }) later known;

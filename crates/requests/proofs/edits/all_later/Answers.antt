@@ -6,8 +6,8 @@ use Rattle.requests.proofs.Known.{no_closed, known_each}
 use Rattle.requests.proofs.Reach.{left_same, later_all}
 use Rattle.requests.proofs.edits.all_later.Goals as goal
 
-pub overflow-add-closed : goal.overflow-add-closed
-overflow-add-closed c =
+pub overflow_add-closed : goal.overflow_add-closed
+overflow_add-closed c =
     let all = c.args.closed.now in
     omega (arith, known_each 64 all no_closed c.requires c.loop-i.i c.loop-i-test.true, left_same known_later (λ x. x.since) all c.loop-i.closed c.loop-i.i no_closed c.loop-i-test.true c.loop-i.invariant)
 

@@ -5,8 +5,8 @@ use Rattle.requests.specs.Request.{later_by, no_request}
 use Rattle.requests.proofs.Reach.{reach_each, left_same, later_all}
 use Rattle.requests.proofs.pending.slots.all_later.Goals as goal
 
-pub overflow-add-requests : goal.overflow-add-requests
-overflow-add-requests c =
+pub overflow_add-requests : goal.overflow_add-requests
+overflow_add-requests c =
     let all = c.args.requests.now in
     omega (arith, reach_each all c.loop-i.i c.loop-i-test.true, left_same later_by (λ x. x.since) all c.loop-i.requests c.loop-i.i no_request c.loop-i-test.true c.loop-i.invariant, c.requires)
 
