@@ -1,5 +1,5 @@
 -- How many closed requests are known, and how many requests there are in all.
-use Rattle.std.proofs.Common.{◌≡◌, ℕ, zero, suc, ◌+◌, ◌<◌, ◌≤◌, max, Bool, true, false, cond, leb, List, [], ◌∷◌, ◌++◌, map, length, get_or, take, drop, set, filter, sym, refl, ap, ◌∙◌, zero-add, arith}
+use Rattle.std.proofs.Common.{◌≡◌, ℕ, zero, suc, ◌+◌, ◌<◌, ◌≤◌, max, Bool, true, false, cond, leb, List, [], ◌∷◌, ◌++◌, map, length, get_or, set, filter, refl, ap, ◌∙◌, zero-add, arith}
 use Rattle.std.specs.List.{remove}
 use Rattle.std.proofs.lemmas.Bool.{leb-true, le-leb}
 use Rattle.std.proofs.lemmas.Bool.Decides.{nat_tests}
@@ -8,7 +8,6 @@ use Rattle.requests.specs.declared.request.Request.{Request}
 use Rattle.requests.specs.declared.request.Closed.{Closed}
 use Rattle.requests.specs.Request.{known_upto, known_later, reach_of, later_by, no_request, renonced}
 use Rattle.requests.specs.Book.{is_known}
-use Rattle.requests.proofs.Reach.{reach_push}
 
 -- what stands past the end of a list
 abbrev pub no_closed : Closed

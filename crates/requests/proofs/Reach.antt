@@ -1,9 +1,9 @@
 -- How far one has to go back to reach all requests.
-use Rattle.std.proofs.Common.{◌≡◌, ℕ, zero, suc, ◌+◌, ◌-◌, ◌<◌, ◌≤◌, max, List, [], ◌∷◌, ◌++◌, map, length, get_or, take, drop, sym, refl, ap, ◌∙◌, ap₂, append-nil, arith, length-take-le}
+use Rattle.std.proofs.Common.{◌≡◌, ℕ, zero, suc, ◌+◌, ◌-◌, ◌<◌, ◌≤◌, max, List, [], ◌∷◌, ◌++◌, map, length, get_or, take, drop, ap, ◌∙◌, ap₂, append-nil, arith, length-take-le}
 use lib.ListN.{length-map}
 use Rattle.std.proofs.lemmas.List.{get_or-append_right, get_or-drop, take_all, take_more, drop_all}
 use Rattle.requests.specs.declared.request.Request.{Request}
-use Rattle.requests.specs.Request.{reach_of, no_request, later_by}
+use Rattle.requests.specs.Request.{reach_of, no_request}
 
 pub reach_each : (qs : List Request) (k : ℕ) → k < length qs → (get_or qs k no_request).since < reach_of qs
 unfolding reach_of

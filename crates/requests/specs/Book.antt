@@ -1,11 +1,10 @@
 -- The requests that are pending and those that are closed and known, and what becomes of them.
-use Rattle.std.specs.Prelude.{ℕ, ◌+◌, ◌≤◌, Bool, true, false, cond, not, ◌&&◌, ◌||◌, List, [], ◌∷◌, ◌++◌, map, length, get_or, Some, None, vec_items, filter, Option, ◌==◌, nat_le, nat_lt, slice_index_or, slice_set}
+use Rattle.std.specs.Prelude.{ℕ, ◌+◌, ◌≤◌, Bool, false, cond, not, ◌&&◌, ◌||◌, List, [], ◌∷◌, ◌++◌, map, length, get_or, Some, None, vec_items, filter, Option, ◌==◌, nat_le, nat_lt, slice_index_or, slice_set}
 use Rattle.std.specs.List.{remove}
 use Rattle.requests.specs.declared.request.Request.{Request}
 use Rattle.requests.specs.declared.request.Closed.{Closed}
 use Rattle.requests.specs.declared.request.Over.{Over}
 use Rattle.requests.specs.declared.request.Seek.{Seek}
-use Rattle.requests.specs.declared.request.Seek.TheVariants as Seek
 use Rattle.requests.specs.declared.request.Standing.{Standing}
 use Rattle.requests.specs.declared.request.Standing.TheVariants.{Unknown, Late, Pending}
 use Rattle.requests.specs.declared.Requests.{Requests}

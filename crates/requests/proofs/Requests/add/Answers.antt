@@ -1,4 +1,4 @@
-use Rattle.std.proofs.Common.{◌≡◌, [], ◌∷◌, length, ap, arith, length-append}
+use Rattle.std.proofs.Common.{[], ◌∷◌, length, ap, arith, length-append}
 use Rattle.requests.specs.declared.request.Request.{Request}
 use Rattle.requests.specs.Request.{reach_of}
 use Rattle.requests.specs.Pending.{waiting_in}
@@ -13,4 +13,4 @@ invariant_of-self c =
     let q = c.args.self.now in
     let new : Request = record { server = c.args.server; nonce = c.args.nonce; count = c.args.count; since = 0 } in
     let long = length-append (waiting_in q.pending) (new ∷ []) in
-    (omega (arith, ap reach_of c.push.ensures.waiting, reach_push (waiting_in q.pending) new, q.near), (q.room, (λ k. omega (arith, ap length c.push.ensures.waiting, c.requires k), (q.fresh, tt))))
+    record { near = omega (arith, ap reach_of c.push.ensures.waiting, reach_push (waiting_in q.pending) new, q.near); room = q.room; few = λ k. omega (arith, ap length c.push.ensures.waiting, c.requires k); fresh = q.fresh }

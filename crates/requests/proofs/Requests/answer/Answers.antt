@@ -1,4 +1,4 @@
-use Rattle.std.proofs.Common.{◌≡◌, length, ap, arith}
+use Rattle.std.proofs.Common.{length, ap, arith}
 use Rattle.std.proofs.lemmas.List.Edits.{length-remove}
 use Rattle.requests.specs.Request.{reach_of}
 use Rattle.requests.specs.Pending.{waiting_in}
@@ -13,4 +13,4 @@ invariant_of-self c =
     let same = renonced_same (waiting_in q.pending) next c.args.place _ c.set_nonce.ensures.waiting in
     let less = length-remove next at (omega (arith, c.oldest_like-oldest.ensures.within)) in
     let gone = c.remove.ensures.waiting in
-    (omega (arith, ap reach_of gone, reach_removed next at, q.near), (q.room, (λ k. omega (arith, ap length gone, q.few k), (q.fresh, tt))))
+    record { near = omega (arith, ap reach_of gone, reach_removed next at, q.near); room = q.room; few = λ k. omega (arith, ap length gone, q.few k); fresh = q.fresh }

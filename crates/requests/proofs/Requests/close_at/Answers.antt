@@ -1,4 +1,4 @@
-use Rattle.std.proofs.Common.{◌≡◌, ℕ, ◌+◌, length, vec_items, refl, ap, ◌∙◌, arith}
+use Rattle.std.proofs.Common.{◌≡◌, ℕ, ◌+◌, length, vec_items, refl, ap, arith}
 use Rattle.std.proofs.lemmas.List.Edits.{length-remove}
 use Rattle.requests.specs.Request.{known_upto, reach_of}
 use Rattle.requests.specs.Pending.{waiting_in}
@@ -12,4 +12,4 @@ invariant_of-self c =
     let gone = c.remove.ensures.waiting in
     let less = length-remove ps c.args.place c.requires in
     let more : (k : ℕ) → known_upto k (vec_items c.push_reserved.new.self) ≡ known_upto k (vec_items q.closed) + 1 = λ k. known_more k (vec_items q.closed) (vec_items c.push_reserved.new.self) _ c.push_reserved.ensures.items refl in
-    (omega (arith, ap reach_of gone, reach_removed ps c.args.place, q.near), (omega (arith, q.room, c.push_reserved.ensures.capacity), (λ k. omega (arith, ap length gone, more k, q.few k), (omega (arith, more 64, q.fresh, c.push_reserved.ensures.len), tt))))
+    record { near = omega (arith, ap reach_of gone, reach_removed ps c.args.place, q.near); room = omega (arith, q.room, c.push_reserved.ensures.capacity); few = λ k. omega (arith, ap length gone, more k, q.few k); fresh = omega (arith, more 64, q.fresh, c.push_reserved.ensures.len) }

@@ -1,4 +1,4 @@
-use Rattle.std.proofs.Common.{◌≡◌, length, sym, ap, ◌∙◌, arith}
+use Rattle.std.proofs.Common.{length, sym, ap, ◌∙◌, arith}
 use Rattle.requests.specs.Request.{known_upto, reach_of}
 use Rattle.requests.proofs.Requests.new.Goals as goal
 
@@ -7,4 +7,4 @@ unfolding known_upto reach_of
 invariant_of-result c =
     let none = c.new.ensures.waiting in
     let m = c.in_ok-closed.ensures in
-    (omega (arith, ap reach_of none), (m.capacity, (λ k. omega (arith, ap length none, ap (known_upto k) m.items), (ap (known_upto 64) m.items ∙ sym m.len, tt))))
+    record { near = omega (arith, ap reach_of none); room = m.capacity; few = λ k. omega (arith, ap length none, ap (known_upto k) m.items); fresh = ap (known_upto 64) m.items ∙ sym m.len }

@@ -1,5 +1,5 @@
 use Rattle.std.proofs.Common.{◌≡◌, ◌<◌, length, get_or, unwrap_or, sym, ap, ◌∙◌, subst}
-use Rattle.requests.specs.Book.{place_in, fits}
+use Rattle.requests.specs.Book.{place_in}
 use Rattle.requests.specs.Request.{alike, no_request}
 use Rattle.requests.specs.Pending.{waiting_in}
 use Rattle.requests.proofs.Firsts.{place_within, place_first, like_self}

@@ -1,4 +1,4 @@
-use Rattle.std.proofs.Common.{◌≡◌, map, take, filter, ap, ◌∙◌}
+use Rattle.std.proofs.Common.{map, take, filter, ap, ◌∙◌}
 use Rattle.std.specs.Vec.{with_items}
 use Rattle.std.proofs.lemmas.List.{with_items_is}
 use Rattle.requests.specs.Book.{is_known}

@@ -1,4 +1,4 @@
-use Rattle.std.proofs.Common.{◌≡◌, sym, ◌∙◌, arith}
+use Rattle.std.proofs.Common.{sym, ◌∙◌, arith}
 use Rattle.requests.specs.Book.{fits}
 use Rattle.requests.specs.Request.{no_request}
 use Rattle.requests.proofs.Firsts.{first_miss, first_hit, first_end, place_some, place_none}

@@ -1,4 +1,4 @@
-use Rattle.std.proofs.Common.{◌≡◌, sym, ◌∙◌, arith}
+use Rattle.std.proofs.Common.{sym, ◌∙◌, arith}
 use Rattle.requests.proofs.Firsts.{knows_hit, knows_miss, knows_end}
 use Rattle.requests.proofs.reads.knows.Goals as goal
 

@@ -9,7 +9,7 @@ pub invariant_of-self : goal.invariant_of-self
 invariant_of-self c =
     let p = c.args.self.now in
     let long : length c.all_later.new.requests ≡ p.many - 0 = omega (arith, ap length c.all_later.ensures.after, length-map (take (p.many - 0) p.items) later_by, length-take (p.many - 0) p.items, p.sixteen, p.within) in
-    (mid_long p.items c.all_later.new.requests 0 (p.many - 0) (omega (arith, p.sixteen, p.within)) long ∙ p.sixteen, (p.within, tt))
+    record { sixteen = mid_long p.items c.all_later.new.requests 0 (p.many - 0) (omega (arith, p.sixteen, p.within)) long ∙ p.sixteen; within = p.within }
 
 pub returns : goal.returns
 returns c =

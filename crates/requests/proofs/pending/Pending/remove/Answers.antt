@@ -1,4 +1,4 @@
-use Rattle.std.proofs.Common.{◌≡◌, ℕ, suc, ◌+◌, ◌-◌, ◌++◌, length, take, drop, ap, ◌∙◌, subst, arith, length-drop, length-take}
+use Rattle.std.proofs.Common.{◌≡◌, suc, ◌+◌, ◌-◌, ◌++◌, length, take, drop, ap, ◌∙◌, arith, length-drop, length-take}
 use borrow.Rule.Slice.PartMut.{put_mid}
 use Rattle.std.specs.List.{remove}
 use Rattle.requests.proofs.Slots.{mid_long, turned_away}
@@ -10,7 +10,7 @@ invariant_of-self c =
     let long = length-take p.many p.items in
     let part = length-take (p.many - c.args.place) (drop c.args.place p.items) in
     let turned : length c.rotate_left.new.self ≡ p.many - c.args.place = omega (arith, c.rotate_left.ensures.len, length-drop c.args.place p.items, c.requires, p.sixteen, p.within) in
-    (mid_long p.items c.rotate_left.new.self c.args.place (p.many - c.args.place) (omega (arith, c.requires, p.sixteen, p.within)) turned ∙ p.sixteen, (omega (arith, p.within), tt))
+    record { sixteen = mid_long p.items c.rotate_left.new.self c.args.place (p.many - c.args.place) (omega (arith, c.requires, p.sixteen, p.within)) turned ∙ p.sixteen; within = omega (arith, p.within) }
 
 pub returns : goal.returns
 returns c =

@@ -1,4 +1,4 @@
-use Rattle.std.proofs.Common.{◌≡◌, take, set, sym, ap, ◌∙◌, arith, length-take, get_or-take}
+use Rattle.std.proofs.Common.{take, set, sym, ap, ◌∙◌, arith, length-take, get_or-take}
 use lib.Seq.{take-set-lt}
 use Rattle.requests.specs.Request.{no_request, renonced}
 use Rattle.requests.proofs.pending.Pending.set_nonce.Goals as goal
