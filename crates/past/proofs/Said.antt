@@ -1,5 +1,5 @@
 -- What is said of an event is exact for every run that the row and the kept moments stand for.
-use Rattle.std.proofs.Common.{◌≡◌, ℕ, zero, suc, ◌+◌, ◌-◌, ◌*◌, ◌<◌, ◌≤◌, T, List, [], ◌∷◌, length, get_or, take, drop, None, Option, sym, refl, ap, ◌∙◌, subst, ap₂, arith}
+use Rattle.std.proofs.Common.{◌≡◌, ℕ, zero, suc, ◌+◌, ◌*◌, ◌<◌, T, List, [], ◌∷◌, length, get_or, take, drop, None, Option, sym, ap, ◌∙◌, subst, ap₂, arith}
 use Rattle.span.specs.declared.Span.{Span}
 use Rattle.span.specs.Span.{is_in, span}
 use Rattle.span.specs.World.{Rules, Event}
@@ -9,7 +9,7 @@ use Rattle.span.specs.Past.{past_of}
 use Rattle.span.proofs.Past.{length_moments}
 use Rattle.choice.specs.Choice.{bit, Allowed}
 use Rattle.choice.specs.Promise.{Full}
-use Rattle.choice.specs.Row.{span_at, row_of, row_through}
+use Rattle.choice.specs.Row.{span_at, row_of}
 use Rattle.choice.specs.Stands.{AllFull}
 use Rattle.choice.specs.Past.{WorldAt}
 use Rattle.choice.proofs.Rows.{Kept, kept_through}

@@ -7,7 +7,7 @@ use Rattle.span.specs.declared.Span.{Span}
 use Rattle.span.specs.declared.Span.TheVariants.{Between, Empty}
 use Rattle.span.specs.Span.{is_in, span, meet}
 use Rattle.span.proofs.Steps.{of_ends, in_ends}
-use Rattle.choice.specs.Row.{low_of, high_of, span_at, row_of}
+use Rattle.choice.specs.Row.{span_at, row_of}
 use Rattle.choice.proofs.Rows.{Kept}
 use Rattle.past.specs.Event.{wider, said_by, LeastAndGreatest, Within}
 

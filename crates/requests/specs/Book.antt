@@ -1,5 +1,5 @@
 -- The requests that are pending and those that are closed and known, and what becomes of them.
-use Rattle.std.specs.Prelude.{ℕ, ◌+◌, ◌≤◌, Bool, false, cond, not, ◌&&◌, ◌||◌, List, [], ◌∷◌, ◌++◌, map, length, get_or, Some, None, vec_items, filter, Option, ◌==◌, nat_le, nat_lt, slice_index_or, slice_set}
+use Rattle.std.specs.Prelude.{ℕ, ◌+◌, ◌≤◌, Bool, false, cond, not, ◌&&◌, ◌||◌, List, [], ◌∷◌, ◌++◌, map, length, Some, None, vec_items, filter, Option, ◌==◌, nat_le, nat_lt, slice_index_or, slice_set}
 use Rattle.std.specs.List.{remove}
 use Rattle.requests.specs.declared.request.Request.{Request}
 use Rattle.requests.specs.declared.request.Closed.{Closed}
@@ -38,7 +38,7 @@ knows server nonce (c ∷ cs) = is_known_for server nonce c || knows server nonc
 
 -- How a nonce of a server stands. It is sought among the pending requests first, the oldest first; one of these that has 64 moments since it is too late, and so is one that is closed.
 abbrev pub pending_at : ℕ → List Request → Standing
-pending_at i ps = cond (nat_lt (get_or ps i no_request).since 64) (Pending i) Late
+pending_at i ps = cond (nat_lt (slice_index_or ps i no_request).since 64) (Pending i) Late
 
 abbrev pub standing_of : ℕ → List ℕ → Book → Standing
 standing_of server nonce b = cond (nat_lt (first_of (is_for server nonce) b.pending) (length b.pending)) (pending_at (first_of (is_for server nonce) b.pending) b.pending) (cond (knows server nonce b.closed) Late Unknown)
@@ -75,7 +75,7 @@ oldest_like i ps = first_of (alike (slice_index_or ps i no_request)) ps
 
 abbrev pub answered_at : ℕ → Book → Book
 answered_at i b = record {
-  pending = remove (slice_set b.pending i (renonced (get_or b.pending (oldest_like i b.pending) no_request).nonce (slice_index_or b.pending i no_request))) (oldest_like i b.pending);
+  pending = remove (slice_set b.pending i (renonced (slice_index_or b.pending (oldest_like i b.pending) no_request).nonce (slice_index_or b.pending i no_request))) (oldest_like i b.pending);
   closed = b.closed;
 }
 

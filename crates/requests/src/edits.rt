@@ -1,5 +1,5 @@
 // What is done with requests.
-ghost use Rattle.std.specs.Prelude.{◌≡◌, ◌<◌, ◌≤◌, map, length, get_or, take, IfOk, vec_len, vec_capacity, filter, slice_index_or};
+ghost use Rattle.std.specs.Prelude.{◌≡◌, ◌<◌, ◌≤◌, map, length, take, IfOk, vec_len, vec_capacity, filter, slice_index_or};
 ghost use Rattle.requests.specs.Book.{answered_at, asked_for, book_of, closed_at, closed_by, is_known, no_book, oldest_like, Spare, ticked};
 ghost use Rattle.requests.specs.Request.{known_later, known_upto, no_request, reach_of};
 
@@ -109,7 +109,7 @@ impl Requests {
 
     // Takes the reply to the request at a place, and says which request it is taken for.
     pub fn answer(&mut self, place: usize) -> Request
-        requires near { (get_or (book_of self.old).pending place no_request).since < 64 }
+        requires near { (slice_index_or (book_of self.old).pending place no_request).since < 64 }
         requires there { place < length (book_of self.old).pending }
         ensures value { book_of self.new ≡ answered_at place (book_of self.old) }
         ensures taken { result ≡ slice_index_or (book_of self.old).pending (oldest_like place (book_of self.old).pending) no_request }

@@ -1,16 +1,14 @@
 -- Rows through moments.
-use Rattle.std.proofs.Common.{◌≡◌, ℕ, suc, ◌+◌, ◌*◌, ◌<◌, ◌≤◌, false, List, [], ◌∷◌, length, get_or, take, drop, Some, None, Option, sym, refl, ap, ◌∙◌, subst, ap₂, zero-add, arith}
+use Rattle.std.proofs.Common.{◌≡◌, ℕ, suc, ◌+◌, ◌<◌, ◌≤◌, false, List, [], ◌∷◌, length, get_or, drop, Some, None, Option, sym, refl, ap, ◌∙◌, ap₂, zero-add}
 use Rattle.std.proofs.lemmas.List.{drop_more, drop_all}
 use Rattle.span.specs.declared.Span.{Span}
 use Rattle.span.specs.Rate.{Strides, least, most}
 use Rattle.span.specs.Span.{span, moved, later}
-use Rattle.span.specs.World.{Rules}
 use Rattle.span.specs.Model.{cut_all, through}
-use Rattle.span.specs.Model as model
 use Rattle.span.proofs.Steps.{stride_later}
 use Rattle.choice.specs.declared.row.Claim.{Claim}
 use Rattle.choice.specs.Choice.{bit}
-use Rattle.choice.specs.Row.{low_of, high_of, over_row, row_of, row_through, cut_at}
+use Rattle.choice.specs.Row.{low_of, high_of, over_row, row_through, cut_at}
 use Rattle.choice.specs.Moves.{claim_of}
 use Rattle.choice.proofs.Rows.{Kept, kept_moved, kept_through, over_rows}
 use Rattle.trail.specs.declared.Moment.{Moment}

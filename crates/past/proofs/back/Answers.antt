@@ -17,6 +17,6 @@ loop-i-preserved c =
     let w = c.args.moments.now in
     let i = c.loop-i.i in
     let same : i ≡ i - 1 + 1 = omega arith in
-    c.back-from-reached.ensures.value
+    c.back_from-reached.ensures.value
     ∙ ap (back_from d who (get_or w (i - 1) blank)) (c.loop-i.invariant ∙ ap (λ j. backward d who (drop j w)) same)
     ∙ sym (back_more d who w (i - 1) (omega arith))

@@ -1,4 +1,4 @@
-use Rattle.std.proofs.Common.{◌≡◌, sym, ap, ◌∙◌}
+use Rattle.std.proofs.Common.{sym, ap, ◌∙◌}
 use Rattle.span.specs.Model.{cut_all}
 use Rattle.choice.specs.Choice.{bit}
 use Rattle.trail.specs.Trail.{claims_of}

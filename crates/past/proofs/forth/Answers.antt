@@ -1,4 +1,4 @@
-use Rattle.std.proofs.Common.{◌≡◌, ◌+◌, drop, sym, ap, ◌∙◌}
+use Rattle.std.proofs.Common.{◌+◌, drop, sym, ap, ◌∙◌}
 use Rattle.choice.specs.Choice.{bit}
 use Rattle.past.specs.Event.{onward}
 use Rattle.past.proofs.Ways.{forth_more, forth_end}
@@ -10,7 +10,7 @@ loop-moment-preserved c =
     let who = bit c.args.choice in
     let i = c.loop-moment.moment-index in
     let w = c.args.moments.now in
-    ap (onward d who (drop (i + 1) w)) c.on-to-reached.ensures.value
+    ap (onward d who (drop (i + 1) w)) c.on_to-reached.ensures.value
     ∙ sym (forth_more d who w i c.loop-moment.reached c.loop-moment-test.true)
     ∙ c.loop-moment.invariant
 

@@ -18,9 +18,9 @@ loop-k-preserved c =
     let upto = take (c.args.place + 1) c.args.moments.now in
     let after = drop (c.args.place + 1) c.args.moments.now in
     let f : ℕ → Span → Span = λ c. span_then d c upto after in
-    let span : c.span-then.result ≡ f choice (span_at base k) =
-    c.span-then.ensures.value
-    ∙ ap₂ (λ a b. span_then d choice a b c.read.result) c.split-at.ensures.front c.split-at.ensures.back
+    let span : c.span_then.result ≡ f choice (span_at base k) =
+    c.span_then.ensures.value
+    ∙ ap₂ (λ a b. span_then d choice a b c.read.result) c.split_at.ensures.front c.split_at.ensures.back
     ∙ ap (f choice) c.read.ensures.value in
     ap (λ s. said_by f s (drop (k + 1) cs) (drop (2 * (k + 1)) base)) (c.widened-said.ensures.value ∙ ap (wider c.loop-k.said) span)
     ∙ sym (said_more f c.loop-k.said k cs base (omega arith) (omega (arith, c.requires)))
@@ -40,6 +40,6 @@ returns c =
       exact = said_exact d base cs kept place c.loop-k.said (omega (arith, c.requires)) is;
       known = known_past_exact;
       whole = past_exact;
-      never-widens = past_never_widens;
+      never_widens = past_never_widens;
       narrows = said_never_widens;
     }

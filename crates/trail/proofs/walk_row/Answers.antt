@@ -1,4 +1,4 @@
-use Rattle.std.proofs.Common.{◌≡◌, ◌+◌, drop, sym, ap, ◌∙◌, subst}
+use Rattle.std.proofs.Common.{◌+◌, drop, sym, ap, ◌∙◌, subst}
 use Rattle.trail.specs.Trail.{walked, RowWalks}
 use Rattle.trail.proofs.Walks.{walk_more, walk_end, row_walks}
 use Rattle.trail.proofs.walk_row.Goals as goal
@@ -8,7 +8,7 @@ loop-moment-preserved c =
     let d = c.args.drift.millionths in
     let cs = c.args.choices.now in
     let rest = drop (c.loop-moment.moment-index + 1) c.args.moments.now in
-    ap (walked d cs rest) c.step-row.ensures.after
+    ap (walked d cs rest) c.step_row.ensures.after
     ∙ sym (walk_more d cs c.args.moments.now c.loop-moment.moment-index c.loop-moment.row c.loop-moment-test.true)
     ∙ c.loop-moment.invariant
 
