@@ -1,5 +1,5 @@
 -- What is promised of the hand, whatever comes and for as long as it goes.
-use Rattle.std.specs.Prelude.{◌≡◌, ℕ, ◌+◌, ◌<◌, ◌≤◌, min, Bool, true, false, not, ◌&&◌, ◌||◌, ◌⊎◌, List, [], ◌∷◌, ◌++◌, length, is_some, Some, None, Decides, Option, slice_index_or}
+use Rattle.std.specs.Prelude.{◌≡◌, ℕ, ◌+◌, ◌<◌, ◌≤◌, min, Bool, true, false, not, ◌&&◌, ◌||◌, ◌⊎◌, List, [], ◌∷◌, ◌++◌, length, is_some, Some, None, Decides, slice_index_or}
 use Rattle.std.specs.List.{IsFirstBest, AllByRecursion as All}
 use Rattle.span.specs.Span.{ceiling}
 use Rattle.choice.specs.declared.runs.Run.{Run}

@@ -1,18 +1,15 @@
 -- A ledger's steps, as events of a run.
-use Rattle.std.proofs.Common.{◌≡◌, ℕ, suc, ◌+◌, ◌<◌, ◌≤◌, cond, leb, List, [], ◌∷◌, ◌++◌, length, get_or, take, sym, refl, ap, ◌∙◌, subst}
+use Rattle.std.proofs.Common.{◌≡◌, ℕ, suc, ◌+◌, ◌<◌, cond, List, [], ◌∷◌, ◌++◌, length, get_or, take, sym, refl, ap, ◌∙◌}
 use Rattle.std.proofs.lemmas.List.{take_more}
 use Rattle.span.specs.declared.Span.{Span}
 use Rattle.std.proofs.lemmas.Bool.{le-leb}
 use Rattle.span.specs.Span.{upto, ceiling}
-use Rattle.span.specs.Rate.{Strides}
-use Rattle.span.specs.World.{Rules, Event}
 use Rattle.span.specs.Model.{moments, put, plain, lowest, through}
 use Rattle.span.specs.Model as model
-use Rattle.choice.specs.declared.row.Claim.{Claim}
 use Rattle.choice.specs.declared.row.Claim.TheVariants.{AtMost, AtLeast}
 use Rattle.choice.specs.Row.{low_of, high_of, row_of, row_through}
 use Rattle.choice.specs.Moves.{RowMoves, RowCuts}
-use Rattle.choice.specs.Stands.{AllFull, AllChosen, Stands}
+use Rattle.choice.specs.Stands.{AllChosen}
 use Rattle.ledger.specs.Ledger.{Begins, Passes, Hears}
 
 -- the row of one choice more

@@ -1,5 +1,5 @@
 -- What a ledger promises: its row of spans stands for a run of events, and what it says is exact.
-use Rattle.std.specs.Prelude.{◌≡◌, ℕ, ◌<◌, ◌≤◌, List, [], ◌∷◌, take}
+use Rattle.std.specs.Prelude.{◌≡◌, ℕ, ◌<◌, ◌≤◌, List, [], ◌∷◌}
 use Rattle.span.specs.Rate.{Strides}
 use Rattle.span.specs.Span.{is_in}
 use Rattle.span.specs.World.{Rules, Event, Shows, Asks, Accepts}

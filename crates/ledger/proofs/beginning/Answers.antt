@@ -1,4 +1,4 @@
-use Rattle.std.proofs.Common.{◌≡◌, [], ◌∷◌, ◌++◌, take, sym, ap, ◌∙◌, arith}
+use Rattle.std.proofs.Common.{[], ◌∷◌, ◌++◌, take, sym, ap, ◌∙◌, arith}
 use Rattle.std.proofs.lemmas.List.{take_all}
 use Rattle.span.specs.Span.{upto}
 use Rattle.choice.specs.Row.{row_of}
@@ -11,11 +11,11 @@ loop-init c = (c.new-row.ensures.items ∙ row_none (λ _. upto c.args.latest), 
 pub loop-preserved : goal.loop-preserved
 loop-preserved c =
     let more = row_more (λ _. upto c.args.latest) c.args.choices.now c.loop.index (omega arith) in (
-      c.in-ok-push-2.ensures.items
-          ∙ ap (λ x. x ++ c.min-top.result ∷ []) (c.in-ok-push.ensures.items ∙ ap (λ x. x ++ 0 ∷ []) c.loop.invariant.0)
+      c.in_ok-push-2.ensures.items
+          ∙ ap (λ x. x ++ c.min-top.result ∷ []) (c.in_ok-push.ensures.items ∙ ap (λ x. x ++ 0 ∷ []) c.loop.invariant.0)
           ∙ ap (λ x. (row_of (λ _. upto c.args.latest) (take c.loop.index c.args.choices.now) ++ 0 ∷ []) ++ x ∷ []) c.min-top.ensures
           ∙ sym more,
-      omega (arith, c.loop.invariant.1, c.in-ok-push.ensures.len, c.in-ok-push-2.ensures.len),
+      omega (arith, c.loop.invariant.1, c.in_ok-push.ensures.len, c.in_ok-push-2.ensures.len),
     )
 
 pub returns : goal.returns

@@ -8,11 +8,11 @@ loop-run-init c = longest_none c.args.first c.args.rest.now
 
 pub loop-run-preserved : goal.loop-run-preserved
 loop-run-preserved c =
-    let i = c.loop-run.run_index in
+    let i = c.loop-run.run-index in
     elim c.if-length.branch [
       | then-length w ↦ w.best-is ∙ longest_takes c.args.first c.loop-run.best c.args.rest.now i (omega arith) c.loop-run.invariant (omega (arith, w.if-length.true))
       | else-length w ↦ w.best-is ∙ longest_keeps c.args.first c.loop-run.best c.args.rest.now i (omega arith) c.loop-run.invariant (omega (arith, w.if-length.false))
     ]
 
 pub returns : goal.returns
-returns c = record { value = longest_all _ _ _ c.loop-run.run_index (omega arith) c.loop-run.invariant }
+returns c = record { value = longest_all _ _ _ c.loop-run.run-index (omega arith) c.loop-run.invariant }

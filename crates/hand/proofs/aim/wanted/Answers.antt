@@ -16,12 +16,12 @@ unfolding wanted
 wants_some [] h = absurd (omega arith)
 wants_some (r ∷ rs) h = refl
 
-pub returns-then-is-empty : goal.returns-then-is-empty
-returns-then-is-empty c = record { value = wants_none c.args.runs.now (eqb-true _ 0 (sym c.if-is-empty.ensures)) }
+pub returns-then-is_empty : goal.returns-then-is_empty
+returns-then-is_empty c = record { value = wants_none c.args.runs.now (eqb-true _ 0 (sym c.if-is_empty.ensures)) }
 
 pub returns : goal.returns
 returns c =
-    let some = eqb-false _ 0 (sym c.if-is-empty.ensures) in
+    let some = eqb-false _ 0 (sym c.if-is_empty.ensures) in
     let rs = c.args.runs.now in
     record {
       value =

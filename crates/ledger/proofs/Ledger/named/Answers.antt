@@ -1,4 +1,4 @@
-use Rattle.std.proofs.Common.{◌≡◌, vec_items, subst}
+use Rattle.std.proofs.Common.{vec_items, subst}
 use Rattle.choice.specs.Stands.{NamesExact}
 use Rattle.ledger.proofs.Ledger.named.Goals as goal
 
