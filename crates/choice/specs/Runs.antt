@@ -1,7 +1,7 @@
 -- Times as runs: maximal runs of whole numbers, in increasing order, at least one number missing between two.
 use Rattle.std.specs.Prelude.{◌≡◌, ℕ, ◌+◌, ◌-◌, ◌≤◌, max, Bool, true, false, cond, ◌&&◌, ◌||◌, List, [], ◌∷◌, length, Some, None, Decides, Option, ◌==◌, ◌≢◌, nat_le, slice_index_or}
 use Rattle.span.specs.World.{Rules, Event, World}
-use Rattle.std.specs.List.{AllByRecursion as All}
+use Rattle.std.specs.List.{AllByRecursion}
 use Rattle.choice.specs.declared.runs.Run.{Run}
 use Rattle.choice.specs.Stands.{Stands}
 
@@ -15,7 +15,7 @@ in_runs t (r ∷ rs) = in_run t r || in_runs t rs
 
 -- each run has a time
 abbrev pub Ordered : List Run → Type 0
-Ordered rs = All (λ r. r.lo ≤ r.hi) rs
+Ordered rs = AllByRecursion (λ r. r.lo ≤ r.hi) rs
 
 -- runs from b on, in increasing order and apart
 unfoldable pub Apart : ℕ → List Run → Type 0

@@ -1,6 +1,6 @@
 -- After each call an exchange stands for the run with this call's moment, or begins anew if no world is left.
 use Rattle.std.proofs.Common.{◌≡◌, ℕ, zero, suc, ◌+◌, ◌-◌, ◌<◌, ◌≤◌, Bool, true, false, cond, not, leb, List, [], ◌∷◌, ◌++◌, map, length, get_or, take, drop, Some, None, Ok, Err, filter, Option, Result, sym, refl, ap, ◌∙◌, subst, ap₂, arith}
-use Rattle.std.specs.List.{AllByRecursion as All}
+use Rattle.std.specs.List.{AllByRecursion}
 use Rattle.std.proofs.ByRecursion.{All-get_or}
 use Rattle.std.proofs.lemmas.Bool.{both_ways, not-true, not-false, le-leb, ltb-false, eqb-true, and_parts}
 use Rattle.std.proofs.lemmas.List.{length-set}
@@ -93,7 +93,7 @@ fresh_stands r s us n p k b l said = record {
     window = p;
     counted = omega (arith, l);
     formed = tt;
-    awaits = subst (λ ps. All (Awaits 0 [] s.window.kept) ps) (sym b) tt;
+    awaits = subst (λ ps. AllByRecursion (Awaits 0 [] s.window.kept) ps) (sym b) tt;
     falls = subst (Falls 0) (sym b) tt;
     seen = λ q h. absurd (omega (arith, ap length k));
   };

@@ -1,6 +1,6 @@
 -- What is kept stays that of the run, step by step.
 use Rattle.std.proofs.Common.{◌≡◌, ℕ, ◌+◌, ◌-◌, ◌<◌, ◌≤◌, Bool, true, false, cond, not, ◌≢◌, List, [], ◌∷◌, ◌++◌, map, length, get_or, take, drop, set, Some, None, filter, sym, refl, ap, ◌∙◌, subst, ⊎_elim, add-one, arith, length-append, length-drop, get_or-set_other, get_or-set_same}
-use Rattle.std.specs.List.{remove, AllByRecursion as All}
+use Rattle.std.specs.List.{remove, AllByRecursion}
 use Rattle.std.proofs.ByRecursion.{All-get_or, All-set, All-append}
 use Rattle.std.proofs.lemmas.List.{get_or-append_right, length-set}
 use Rattle.std.proofs.lemmas.Bool.{cases_eq, eqb-true}
@@ -43,7 +43,7 @@ module _ (r : Rules) (es : List Event) (ms : List model.Moment) (begun : ℕ) (w
         window = stays_settled r ms w h.window k a b;
         counted = h.counted;
         formed = h.formed;
-        awaits = subst (λ x. All (Awaits begun es x) ps) (sym e) h.awaits;
+        awaits = subst (λ x. AllByRecursion (Awaits begun es x) ps) (sym e) h.awaits;
         falls = h.falls;
         seen = subst (SeenAll begun es) (sym e) h.seen;
       }

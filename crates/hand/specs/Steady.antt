@@ -1,6 +1,6 @@
 -- What is promised of the hand, whatever comes and for as long as it goes.
 use Rattle.std.specs.Prelude.{◌≡◌, ℕ, ◌+◌, ◌<◌, ◌≤◌, min, Bool, true, false, not, ◌&&◌, ◌||◌, ◌⊎◌, List, [], ◌∷◌, ◌++◌, length, is_some, Some, None, Decides, slice_index_or}
-use Rattle.std.specs.List.{IsFirstBest, AllByRecursion as All}
+use Rattle.std.specs.List.{IsFirstBest, AllByRecursion}
 use Rattle.span.specs.Span.{ceiling}
 use Rattle.choice.specs.declared.runs.Run.{Run}
 use Rattle.choice.specs.Runs.{in_runs, Apart}
@@ -142,7 +142,7 @@ NeverGoesBack = (es more : List Update) → NeverBack (after es) (after (more ++
 -- Over any updates together it is faster than the local clock by at most 500 millionths, or it went past its reach at one of them, and had to.
 abbrev pub SlowUnlessForced : Type 0
 SlowUnlessForced =
-    (es more : List Update) → All (λ e. Apart 0 (runs_of e)) more →
+    (es more : List Update) → AllByRecursion (λ e. Apart 0 (runs_of e)) more →
     (t u : ℕ) → (after es).time ≡ Some t → (after (more ++ es)).time ≡ Some u → (u ≤ reach (ticks_in more) t) ⊎ SomewhereForced es more
 
 -- It runs freely from an update at which no world is left until a reply is accepted with one.
@@ -155,7 +155,7 @@ ShowsOnceHeard = (es : List Update) → is_some (after es).time ≡ any_showing 
 
 -- It never passes the ceiling if no time that may be did at any update.
 abbrev pub NeverPastCeiling : Type 0
-NeverPastCeiling = (es : List Update) → All (λ e. Apart 0 (runs_of e) × Upto (runs_of e)) es → (t : ℕ) → (after es).time ≡ Some t → t ≤ ceiling
+NeverPastCeiling = (es : List Update) → AllByRecursion (λ e. Apart 0 (runs_of e) × Upto (runs_of e)) es → (t : ℕ) → (after es).time ≡ Some t → t ≤ ceiling
 
 -- What it wants is the middle of the longest run.
 abbrev pub WantsMiddle : Type 0

@@ -1,15 +1,14 @@
 -- A played world is one, and stays one.
-use Rattle.std.proofs.Common.{◌≡◌, ℕ, zero, suc, ◌+◌, ◌-◌, ◌*◌, ◌<◌, ◌≤◌, Bool, true, false, cond, ◌||◌, eqb, ltb, List, [], ◌∷◌, length, get_or, set, replicate, None, Decides, sym, refl, ap, ◌∙◌, subst, ap₂, ⊎_elim, add-zero, zero-mul, arith}
+use Rattle.std.proofs.Common.{◌≡◌, ℕ, zero, suc, ◌+◌, ◌-◌, ◌<◌, ◌≤◌, Bool, true, false, cond, List, [], ◌∷◌, length, get_or, set, replicate, None, Decides, sym, refl, ap, ◌∙◌, subst, ap₂, ⊎_elim, add-zero, zero-mul, arith}
 use Rattle.std.proofs.lemmas.List.{get_or-set_same, get_or-set_other}
 use Rattle.std.proofs.lemmas.Bool.Decides.{nat_tests}
-use Rattle.std.proofs.lemmas.Bool.{both_ways, cases_eq, or_left, or_right, or_cases, eq-eqb, ltb-true, false≢true}
+use Rattle.std.proofs.lemmas.Bool.{both_ways, cases_eq}
 use Rattle.span.specs.Rate.{Fits, Strides, allowed, million}
-use Rattle.span.specs.Span.{ceiling, is_in}
-use Rattle.span.specs.World.{Event, Rules, Faulty, how_many, Way, World, Told, begins, goes}
+use Rattle.span.specs.Span.{ceiling}
+use Rattle.span.specs.World.{Event, Rules, Faulty, how_many, Way, World, begins, goes}
 use Rattle.span.specs.Model.{moments}
 use Rattle.span.proofs.Products.{allowed_fits}
 use Rattle.span.proofs.Paths.{way_path, path_way, wider_path}
-use Rattle.choice.specs.Runs.{in_runs}
 use Rattle.choice.specs.Choice.{bit}
 use Rattle.choice.specs.Promise.{FaultyInAll}
 use Rattle.choice.specs.Stands.{Stands, NamesExact}
@@ -19,7 +18,7 @@ use Rattle.script.specs.declared.Settings.{Settings}
 use Rattle.script.specs.declared.Word.{Word}
 use Rattle.ledger.specs.Ledger.{shows, asks, hears, Says, Passes, Hears, Begins}
 use Rattle.play.specs.Scene.{Played, latest, least_of, greatest_of, Same, SameLiars, said_of, reply_fault, lie_fault, may_lie}
-use Rattle.play.specs.Plays.{liars_of, rules_of, count_of, Plays, NamesAll, heard_of, LeadsOn}
+use Rattle.play.specs.Plays.{liars_of, rules_of, Plays, NamesAll, heard_of, LeadsOn}
 
 -- the played world is one of the worlds, so that true time is said
 pub world_of : (r : Rules) (es : List Event) (ts : List ℕ) (p : Played) → Plays r es ts p → World r es p.truth

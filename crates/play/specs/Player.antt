@@ -1,6 +1,5 @@
 -- What a line of a script makes of the world that is played, if there is one yet, and what is promised of it.
 use Rattle.std.specs.Prelude.{◌≡◌, ℕ, Bool, true, false, List, [], ◌∷◌, ◌++◌, IfOk, Some, None, Ok, Err, Option, Result, MatchResult, OnOk}
-use Rattle.std.specs.Option.{option_map}
 use Rattle.span.specs.World.{Event, Rules}
 use Rattle.ledger.specs.Ledger as ledger
 use Rattle.script.specs.declared.words.Unread.{Unread}
@@ -8,9 +7,8 @@ use Rattle.script.specs.declared.Statement.{Statement}
 use Rattle.script.specs.declared.Statement.TheVariants.{Nothing, Begin, Pass, Reply, Lie}
 use Rattle.play.specs.declared.scene.Fault.{Fault}
 use Rattle.play.specs.declared.scene.Fault.TheVariants.{NoSettings, SettingsAgain}
-use Rattle.play.specs.declared.scene.Fault.TheVariants as Fault
 use Rattle.play.specs.Scene.{Played, Answers, NotBegun, in_range, pass_fault, reply_fault, lie_fault}
-use Rattle.play.specs.Plays.{Plays, rules_of, heard_of, LeadsOn}
+use Rattle.play.specs.Plays.{Plays, rules_of, heard_of}
 
 -- the moments that a statement makes
 abbrev pub moments_of : Statement → List Event

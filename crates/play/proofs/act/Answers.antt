@@ -1,4 +1,4 @@
-use Rattle.std.proofs.Common.{◌≡◌, sym, refl, ap, ◌∙◌, subst}
+use Rattle.std.proofs.Common.{sym, ap, subst}
 use Rattle.play.specs.Scene.{view_of}
 use Rattle.play.specs.Plays.{LeadsOn}
 use Rattle.play.specs.Player.{moments_of, act_fault}

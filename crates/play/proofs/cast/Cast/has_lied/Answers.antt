@@ -1,4 +1,4 @@
-use Rattle.std.proofs.Common.{◌≡◌, false, sym, arith}
+use Rattle.std.proofs.Common.{false, sym, arith}
 use Rattle.std.proofs.lemmas.List.{get_or_past}
 use Rattle.play.proofs.cast.Cast.has_lied.Goals as goal
 

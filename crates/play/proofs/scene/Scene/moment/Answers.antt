@@ -1,4 +1,4 @@
-use Rattle.std.proofs.Common.{◌≡◌, sym, refl, ap, ◌∙◌}
+use Rattle.std.proofs.Common.{refl, ap, ◌∙◌}
 use Rattle.choice.specs.Runs.{in_runs, bounds_of}
 use Rattle.hand.specs.Hand.{sound_in}
 use Rattle.play.specs.Scene.{view_of, wide}
@@ -16,6 +16,6 @@ returns c =
       width = c.width.ensures.value ∙ ap (λ rs. wide (bounds_of rs)) c.runs-runs.ensures.value;
       named = names_all self c.named.result c.named.ensures.exact;
       hand = c.shown.ensures.value;
-      sound = c.is-sound.ensures.value ∙ ap (λ rs. sound_in rs c.args.self.now.hand.time) c.runs-runs.ensures.value;
+      sound = c.is_sound.ensures.value ∙ ap (λ rs. sound_in rs c.args.self.now.hand.time) c.runs-runs.ensures.value;
       always = λ rs es ts h. said ∙ always_said rs es ts self h;
     }

@@ -1,7 +1,7 @@
-use Rattle.std.proofs.Common.{◌≡◌, ◌<◌, ◌≤◌, true, vec_items, sym, refl, ap, ◌∙◌, subst, arith}
+use Rattle.std.proofs.Common.{◌<◌, vec_items, refl, ◌∙◌, subst, arith}
 use Rattle.std.proofs.lemmas.Bool.Decides.{nat_tests}
 use Rattle.ledger.specs.Ledger.{Begins}
-use Rattle.play.specs.Scene.{in_range, latest}
+use Rattle.play.specs.Scene.{latest}
 use Rattle.play.proofs.Acts.{begins_world}
 use Rattle.play.proofs.scene.Scene.new.Goals as goal
 

@@ -6,7 +6,7 @@ use Rattle.play.proofs.scene.Scene.pass.Goals as goal
 
 pub returns : goal.returns
 returns c =
-    let truth : c.saturating-add-truth.result ≡ c.args.self.now.truth + c.args.step = omega arith in
+    let truth : c.saturating_add-truth.result ≡ c.args.self.now.truth + c.args.step = omega arith in
     let count = c.in-Some.ensures.1 in
     record {
       answer = grind (arith, nat_tests);
