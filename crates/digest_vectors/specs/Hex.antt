@@ -19,9 +19,9 @@ pub record Hashed (text digest : List ℕ) : Type 0 where
   pub value : digest ≡ sha256 message
 
 -- the digest is the code of the message under the key, which the two texts stand for
-pub record Coded (keyText text digest : List ℕ) : Type 0 where
+pub record Coded (key_text text digest : List ℕ) : Type 0 where
   pub key : List ℕ
   pub message : List ℕ
-  pub reads_key : hex_of key ≡ keyText
+  pub reads_key : hex_of key ≡ key_text
   pub reads : hex_of message ≡ text
   pub value : digest ≡ hmac key message

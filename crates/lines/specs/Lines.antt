@@ -14,7 +14,6 @@ use Rattle.lines.specs.declared.line.Said.{Said}
 use Rattle.lines.specs.declared.line.Asked.{Asked}
 use Rattle.lines.specs.declared.line.Hand.{Hand}
 use Rattle.lines.specs.declared.line.Line.{Line}
-use Rattle.lines.specs.declared.line.Line.TheVariants as Line
 
 -- what was reckoned: the runs in which the time can be, and the named servers, bit h for server h
 pub record Reckoning : Type 0 where

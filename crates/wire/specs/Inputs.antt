@@ -7,7 +7,6 @@ use Rattle.wire.specs.declared.refusal.Refusal.{Refusal}
 use Rattle.wire.specs.declared.refusal.Refusal.TheVariants.{Malformed, OutOfRange}
 use Rattle.wire.specs.declared.input.Input.{Input}
 use Rattle.wire.specs.declared.input.Input.TheVariants.{Settings, Count, Ask, Mark, Event}
-use Rattle.wire.specs.declared.input.Input.TheVariants as Input
 use Rattle.wire.specs.declared.input.Reply.{Reply}
 
 -- what the box is set up with: the keys are 32 bytes for each server

@@ -5,5 +5,5 @@ use Rattle.digest.proofs.block.to_block.Goals as goal
 
 pub returns : goal.returns
 returns c =
-    put_front c.args.bytes.now c.copy-from-slice.new.self (length c.args.bytes.now - 0)
-    c.copy-from-slice.ensures.after (omega arith)
+    put_front c.args.bytes.now c.copy_from_slice.new.self (length c.args.bytes.now - 0)
+    c.copy_from_slice.ensures.after (omega arith)

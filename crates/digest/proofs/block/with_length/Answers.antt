@@ -8,5 +8,5 @@ pub returns : goal.returns
 unfolding be64
 returns c =
     let long : length c.args.block ≡ 64 = search rules in
-    put_end 56 8 c.args.block c.copy-from-slice.new.self (omega arith)
-    ∙ ap (λ l. take 56 c.args.block ++ l) (c.copy-from-slice.ensures.after ∙ c.to-be-bytes.ensures)
+    put_end 56 8 c.args.block c.copy_from_slice.new.self (omega arith)
+    ∙ ap (λ l. take 56 c.args.block ++ l) (c.copy_from_slice.ensures.after ∙ c.to_be_bytes.ensures)

@@ -18,7 +18,7 @@ loop-block-preserved c =
 pub returns : goal.returns
 unfolding ending
 returns c =
-    c.to-bytes.ensures
+    c.to_bytes.ensures
     ∙ ap state_bytes
     (
     c.close.ensures

@@ -11,6 +11,6 @@ returns c =
     record {
       value =
           c.keyed.ensures
-          ∙ ap (λ l. sha256 (xored 0x5c c.key-block-block.result ++ l)) c.keyed-inner.ensures
-          ∙ ap (λ b. sha256 (xored 0x5c b ++ sha256 (xored 0x36 b ++ m))) c.key-block-block.ensures;
+          ∙ ap (λ l. sha256 (xored 0x5c c.key_block-block.result ++ l)) c.keyed-inner.ensures
+          ∙ ap (λ b. sha256 (xored 0x5c b ++ sha256 (xored 0x36 b ++ m))) c.key_block-block.ensures;
     }

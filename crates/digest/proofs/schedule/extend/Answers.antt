@@ -8,7 +8,7 @@ pub loop-t-preserved : goal.loop-t-preserved
 loop-t-preserved c =
     let w = c.loop-t.w in
     let t = c.loop-t.t in
-    let sum = sum4 c.small-sigma1.result (get_or w (t - 7) 0) c.small-sigma0.result (get_or w (t - 16) 0) in (
+    let sum = sum4 c.small_sigma1.result (get_or w (t - 7) 0) c.small_sigma0.result (get_or w (t - 16) 0) in (
       length-set w t _ ∙ c.loop-t.invariant.0,
       extended_more w t _ c.loop-t.invariant.0 c.loop-t.auto.t (omega arith) (cc) ∙ c.loop-t.invariant.1,
     )

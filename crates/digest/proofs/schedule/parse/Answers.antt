@@ -7,8 +7,8 @@ use Rattle.digest.proofs.schedule.parse.Goals as goal
 
 pub loop-t-preserved : goal.loop-t-preserved
 loop-t-preserved c = (
-  length-set c.loop-t.w c.loop-t.t c.word-at.result ∙ c.loop-t.invariant.0,
-  simp c.word-at.ensures (fill_by_more (word_at c.args.block.now) c.loop-t.w c.loop-t.t 0 (omega arith) c.loop-t.invariant.1),
+  length-set c.loop-t.w c.loop-t.t c.word_at.result ∙ c.loop-t.invariant.0,
+  simp c.word_at.ensures (fill_by_more (word_at c.args.block.now) c.loop-t.w c.loop-t.t 0 (omega arith) c.loop-t.invariant.1),
 )
 
 pub returns : goal.returns

@@ -4,4 +4,4 @@ use Rattle.digest.proofs.schedule.word_at.Goals as goal
 
 pub returns : goal.returns
 unfolding word_at
-returns c = c.from-be-bytes.ensures
+returns c = c.from_be_bytes.ensures

@@ -4,13 +4,13 @@ use Rattle.hextext.specs.Hex.{digit_of, pairs}
 use Rattle.hextext.proofs.Texts.{digit_below, length_pairs, pair_at, one_more}
 use Rattle.hextext.proofs.hex.read_pairs.Goals as goal
 
-pub overflow-mul-out : goal.overflow-mul-out
-overflow-mul-out c =
+pub overflow_mul-out : goal.overflow_mul-out
+overflow_mul-out c =
     let small = digit_below c.args.text.now (2 * c.loop-i.i) c.requires.digits (omega arith) in
     omega (arith, c.digit.ensures.value)
 
-pub overflow-add-out : goal.overflow-add-out
-overflow-add-out c =
+pub overflow_add-out : goal.overflow_add-out
+overflow_add-out c =
     let high = digit_below c.args.text.now (2 * c.loop-i.i) c.requires.digits (omega arith) in
     let low = digit_below c.args.text.now (2 * c.loop-i.i + 1) c.requires.digits (omega arith) in
     omega (arith, c.digit.ensures.value, c.digit-in-loop-i.ensures.value)

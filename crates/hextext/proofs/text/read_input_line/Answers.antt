@@ -9,7 +9,7 @@ returns-in-Ok c =
     let there = c.in-Ok.ensures.cases in
     record {
       value =
-          c.read-input.ensures.value
+          c.read_input.ensures.value
           ∙ ap decode (read_front c.args.text.now c.args.room.now _ c.in-Ok.n there.1 there.2)
           ∙ sym (ap (λ r. and_then r decode) there.0);
     }

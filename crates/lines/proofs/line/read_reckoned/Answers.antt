@@ -8,10 +8,10 @@ pub returns : goal.returns
 unfolding number2
 returns c =
     let count = c.in-Some.ensures.cases in
-    let last = c.in-Some-split-last-chunk.ensures.cases in
+    let last = c.in-Some-split_last_chunk.ensures.cases in
     record {
       value =
-          reckoned_read c.args.body.now c.in-Some.rest.now _ c.in-Some-split-last-chunk.runs.now c.in-Some-split-last-chunk.named.now _ c.from-be-bytes.result
+          reckoned_read c.args.body.now c.in-Some.rest.now _ c.in-Some-split_last_chunk.runs.now c.in-Some-split_last_chunk.named.now _ c.from_be_bytes.result
           count.0 (count.1, count.2) (left_by 1 c.in-Some.rest.now (omega arith)) last.0 last.1 last.2
-          c.if-runs-many.false c.from-be-bytes.ensures;
+          c.if-runs-many.false c.from_be_bytes.ensures;
     }

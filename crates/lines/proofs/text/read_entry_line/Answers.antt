@@ -10,7 +10,7 @@ returns-in-Ok c =
     let there = c.in-Ok.ensures.cases in
     record {
       value =
-          c.read-entry.ensures.value
+          c.read_entry.ensures.value
           ∙ ap entry_from (read_front c.args.text.now c.args.room.now _ c.in-Ok.n there.1 there.2)
           ∙ sym (ap (λ r. and_then r entry_from) there.0);
       record_back = record_back;

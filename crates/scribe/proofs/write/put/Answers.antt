@@ -6,5 +6,5 @@ pub returns : goal.returns
 returns c =
     record {
       value = refl;
-      after = put_is c.args.at _ c.args.out.now c.copy-from-slice.new.self c.args.bytes.now c.copy-from-slice.ensures.after (omega arith);
+      after = put_is c.args.at _ c.args.out.now c.copy_from_slice.new.self c.args.bytes.now c.copy_from_slice.ensures.after (omega arith);
     }

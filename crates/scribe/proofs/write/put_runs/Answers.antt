@@ -8,13 +8,13 @@ loop-run-init c = (omega arith, sym (put_none c.args.at c.args.out.now))
 pub loop-run-preserved : goal.loop-run-preserved
 loop-run-preserved c = (
   omega arith,
-  c.put-run-end.ensures.after
-      ∙ put_run_more c.args.at c.loop-run.end c.args.out.now c.loop-run.out c.args.runs.now c.loop-run.run_index _ c.loop-run-test.true c.requires.fits c.loop-run.invariant.0 c.loop-run.invariant.1,
+  c.put_run-end.ensures.after
+      ∙ put_run_more c.args.at c.loop-run.end c.args.out.now c.loop-run.out c.args.runs.now c.loop-run.run-index _ c.loop-run-test.true c.requires.fits c.loop-run.invariant.0 c.loop-run.invariant.1,
 )
 
 pub returns : goal.returns
 returns c =
     record {
       value = omega arith;
-      after = put_runs_all c.args.at c.args.out.now c.loop-run.out c.args.runs.now c.loop-run.run_index c.loop-run-test.false c.loop-run.invariant.1;
+      after = put_runs_all c.args.at c.args.out.now c.loop-run.out c.args.runs.now c.loop-run.run-index c.loop-run-test.false c.loop-run.invariant.1;
     }

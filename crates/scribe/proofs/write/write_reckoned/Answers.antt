@@ -11,8 +11,8 @@ pub returns : goal.returns
 returns c =
     let runs = c.args.runs.now in
     let long = length_runs runs in
-    let eight = ap length c.to-be-bytes.ensures in
-    let two = ap length c.to-be-bytes-2.ensures in
+    let eight = ap length c.to_be_bytes.ensures in
+    let two = ap length c.to_be_bytes-2.ensures in
     let fits : room (length runs) (length c.args.out.now) ≡ true = grind (arith, nat_tests) in
     let end : c.put.result ≡ 12 + 16 * length runs = omega arith in
     record {
@@ -20,13 +20,13 @@ returns c =
         fits,
         end,
         reckoned_put c.args.count c.args.named (length runs) (flat_map run_bytes runs) c.args.out.now
-            c.put-kind-end.new.out c.put-count-end.new.out c.put-many-end.new.out c.put-runs-runs-end.new.out c.put.new.out
-            c.put-kind-end.result c.put-count-end.result c.put-many-end.result c.put-runs-runs-end.result (omega arith)
-            c.put-kind-end.ensures.after (omega arith)
-            (c.put-count-end.ensures.after ∙ ap (λ bs. put_at c.put-kind-end.result bs c.put-kind-end.new.out) c.to-be-bytes.ensures) (omega arith)
-            c.put-many-end.ensures.after (omega arith)
-            c.put-runs-runs-end.ensures.after (omega arith)
-            (c.put.ensures.after ∙ ap (λ bs. put_at c.put-runs-runs-end.result bs c.put-runs-runs-end.new.out) c.to-be-bytes-2.ensures)
+            c.put-kind_end.new.out c.put-count_end.new.out c.put-many_end.new.out c.put_runs-runs_end.new.out c.put.new.out
+            c.put-kind_end.result c.put-count_end.result c.put-many_end.result c.put_runs-runs_end.result (omega arith)
+            c.put-kind_end.ensures.after (omega arith)
+            (c.put-count_end.ensures.after ∙ ap (λ bs. put_at c.put-kind_end.result bs c.put-kind_end.new.out) c.to_be_bytes.ensures) (omega arith)
+            c.put-many_end.ensures.after (omega arith)
+            c.put_runs-runs_end.ensures.after (omega arith)
+            (c.put.ensures.after ∙ ap (λ bs. put_at c.put_runs-runs_end.result bs c.put_runs-runs_end.new.out) c.to_be_bytes-2.ensures)
             ∙ ap (λ n. bytes_of (reckoned (record { count = c.args.count; runs = runs; named = c.args.named })) ++ drop n c.args.out.now) (omega arith),
       );
     }

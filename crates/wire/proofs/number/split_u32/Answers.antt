@@ -7,5 +7,5 @@ unfolding number4
 returns c =
     let there = c.in-Some.ensures.cases in
     record {
-      cases = (number4_from c.from-be-bytes.result c.args.bytes.now c.in-Some.front.now there.0 c.from-be-bytes.ensures, there.1, there.2);
+      cases = (number4_from c.from_be_bytes.result c.args.bytes.now c.in-Some.front.now there.0 c.from_be_bytes.ensures, there.1, there.2);
     }

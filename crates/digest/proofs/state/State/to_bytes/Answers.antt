@@ -7,8 +7,8 @@ use Rattle.digest.proofs.state.State.to_bytes.Goals as goal
 pub loop-i-preserved : goal.loop-i-preserved
 unfolding be32
 loop-i-preserved c =
-    put_word c.loop-i.out c.copy-from-slice.new.self _ c.loop-i.i _ c.loop-i.invariant.0 refl
-    c.loop-i-test.true (omega arith) (c.copy-from-slice.ensures.after ∙ c.to-be-bytes.ensures) c.loop-i.invariant.1
+    put_word c.loop-i.out c.copy_from_slice.new.self _ c.loop-i.i _ c.loop-i.invariant.0 refl
+    c.loop-i-test.true (omega arith) (c.copy_from_slice.ensures.after ∙ c.to_be_bytes.ensures) c.loop-i.invariant.1
 
 pub returns : goal.returns
 unfolding state_bytes

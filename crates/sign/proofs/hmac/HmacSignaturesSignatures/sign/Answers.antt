@@ -5,4 +5,4 @@ use Rattle.sign.proofs.hmac.HmacSignaturesSignatures.sign.Goals as goal
 
 pub returns : goal.returns
 unfolding stand_in
-returns c = record { accepted = ap (λ l. l ++ replicate 32 0) (c.copy-from-slice.ensures.after ∙ c.hmac-sha256.ensures.value) }
+returns c = record { accepted = ap (λ l. l ++ replicate 32 0) (c.copy_from_slice.ensures.after ∙ c.hmac_sha256.ensures.value) }
