@@ -1,5 +1,5 @@
 -- Kept moments after older ones: joined, and with a claim put down at one of them.
-use Rattle.std.proofs.Common.{◌≡◌, ℕ, zero, suc, ◌+◌, ◌-◌, ◌<◌, ◌≤◌, List, [], ◌∷◌, ◌++◌, length, get_or, take, drop, set, Some, None, sym, refl, ap, ◌∙◌, subst, ap₂, add-one, arith, length-drop, take-add}
+use Rattle.std.proofs.Common.{◌≡◌, ℕ, suc, ◌+◌, ◌-◌, ◌<◌, List, [], ◌∷◌, ◌++◌, length, get_or, take, drop, set, None, sym, refl, ap, ◌∙◌, add-one, arith, length-drop, take-add}
 use Rattle.std.proofs.lemmas.List.{set_split, drop_more, take-append-drop}
 use Rattle.span.specs.Model as model
 use Rattle.span.specs.Model.{put}

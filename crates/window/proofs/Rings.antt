@@ -1,5 +1,5 @@
 -- How many moments a ring keeps.
-use Rattle.std.proofs.Common.{◌≡◌, ℕ, ◌+◌, ◌≤◌, length, drop, vec_items, vec_len, refl, arith, length-drop}
+use Rattle.std.proofs.Common.{◌≡◌, ◌+◌, length, vec_items, vec_len, arith, length-drop}
 use Rattle.window.specs.Ring.{kept_in}
 use Rattle.window.specs.declared.ring.Ring.{Ring}
 

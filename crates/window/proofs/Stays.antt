@@ -1,17 +1,16 @@
 -- After each step a window stands for the moments of a run with this step's.
-use Rattle.std.proofs.Common.{◌≡◌, ℕ, ◌+◌, ◌-◌, ◌^◌, ◌<◌, ◌≤◌, Bool, true, false, cond, eqb, List, [], ◌∷◌, ◌++◌, length, get_or, take, drop, set, None, sym, refl, ap, ◌∙◌, subst, ap₂, arith, length-append, length-drop, take-append-drop, length-take}
+use Rattle.std.proofs.Common.{◌≡◌, ℕ, ◌+◌, ◌-◌, ◌<◌, ◌≤◌, Bool, true, false, cond, eqb, List, [], ◌∷◌, ◌++◌, length, get_or, take, drop, None, sym, refl, ap, ◌∙◌, subst, arith, length-append, length-drop, take-append-drop, length-take}
 use Rattle.std.proofs.lemmas.List.{length-set, take-set-le, take_all}
 use lib.Seq.{take-append-le}
 use Rattle.std.proofs.lemmas.Bool.{eqb-true}
-use Rattle.span.specs.Span.{upto, ceiling}
 use Rattle.span.specs.World.{Rules}
 use Rattle.span.specs.Model as model
 use Rattle.span.specs.Model.{put, through}
 use Rattle.choice.specs.declared.row.Claim.TheVariants.{AtMost}
-use Rattle.choice.specs.Row.{over_row, row_through}
+use Rattle.choice.specs.Row.{row_through}
 use Rattle.choice.specs.Stands.{AllFull}
 use Rattle.trail.specs.declared.Moment.{Moment}
-use Rattle.trail.specs.Trail.{moment_of, onto, step_at, walked}
+use Rattle.trail.specs.Trail.{moment_of, onto}
 use Rattle.trail.proofs.Walks.{row_steps, row_walks}
 use Rattle.window.specs.Ring.{claimed, nothing}
 use Rattle.window.specs.View.{View}

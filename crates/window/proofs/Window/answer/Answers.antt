@@ -1,4 +1,4 @@
-use Rattle.std.proofs.Common.{◌≡◌, sym, ap, ◌∙◌, subst, rules}
+use Rattle.std.proofs.Common.{◌≡◌, sym, subst, rules}
 use Rattle.choice.specs.declared.row.Claim.TheVariants.{AtMost}
 use Rattle.span.specs.Model.{put}
 use Rattle.window.specs.View.{view_of}

@@ -1,4 +1,4 @@
-use Rattle.std.proofs.Common.{◌≡◌, vec_items, ◌∙◌, subst, ap₂}
+use Rattle.std.proofs.Common.{vec_items, ◌∙◌, subst, ap₂}
 use Rattle.choice.specs.Choice.{choice_of}
 use Rattle.choice.specs.Row.{named_by}
 use Rattle.choice.specs.Stands.{NamesExact}

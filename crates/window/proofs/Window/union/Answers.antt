@@ -1,4 +1,4 @@
-use Rattle.std.proofs.Common.{◌≡◌, length, take, ap, ◌∙◌, subst, arith}
+use Rattle.std.proofs.Common.{take, ap, ◌∙◌, subst, arith}
 use Rattle.span.specs.Span.{is_in}
 use Rattle.choice.specs.Row.{any_span}
 use Rattle.choice.specs.Runs.{RunsExact}

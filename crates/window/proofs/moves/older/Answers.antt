@@ -1,15 +1,15 @@
-use Rattle.std.proofs.Common.{◌≡◌, length, sym, ◌∙◌, arith}
+use Rattle.std.proofs.Common.{◌≡◌, length, ◌∙◌, arith}
 use Rattle.window.proofs.Walks.{older_more, older_stop, older_end}
 use Rattle.window.proofs.moves.older.Goals as goal
 
-pub returns-then-saturating-sub-le-TWO-HOURS : goal.returns-then-saturating-sub-le-TWO-HOURS
-returns-then-saturating-sub-le-TWO-HOURS c = record {
-  value = older_stop c.args.count c.args.moments.now c.loop-i.i c.loop-i-test.true (omega (arith, c.saturating-sub.ensures, c.if-saturating-sub-le-TWO-HOURS.true)) ∙ c.loop-i.invariant;
+pub returns-then-saturating_sub-le-TWO_HOURS : goal.returns-then-saturating_sub-le-TWO_HOURS
+returns-then-saturating_sub-le-TWO_HOURS c = record {
+  value = older_stop c.args.count c.args.moments.now c.loop-i.i c.loop-i-test.true (omega (arith, c.saturating_sub.ensures, c.if-saturating_sub-le-TWO_HOURS.true)) ∙ c.loop-i.invariant;
   within = omega arith;
 }
 
 pub loop-i-preserved : goal.loop-i-preserved
-loop-i-preserved c = older_more c.args.count c.args.moments.now c.loop-i.i c.loop-i-test.true (omega (arith, c.saturating-sub.ensures, c.if-saturating-sub-le-TWO-HOURS.false)) ∙ c.loop-i.invariant
+loop-i-preserved c = older_more c.args.count c.args.moments.now c.loop-i.i c.loop-i-test.true (omega (arith, c.saturating_sub.ensures, c.if-saturating_sub-le-TWO_HOURS.false)) ∙ c.loop-i.invariant
 
 pub returns : goal.returns
 returns c =

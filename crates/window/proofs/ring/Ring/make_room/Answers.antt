@@ -1,4 +1,4 @@
-use Rattle.std.proofs.Common.{◌≡◌, length, refl, ap, arith}
+use Rattle.std.proofs.Common.{length, ap, arith}
 use Rattle.window.proofs.Rings.{kept_long}
 use Rattle.window.proofs.ring.Ring.make_room.Goals as goal
 
