@@ -3,7 +3,6 @@
 set -e
 cd "$(dirname "$0")/.."
 mkdir -p target
-rt staticlib digest_c > target/bench.log 2>&1 || { cat target/bench.log; exit 1; }
-kit=$(dirname "$(dirname "$(rt doc)")")
-rustc -O --edition 2024 -o target/bench_digest bench/digest.rs -L target/staticlib -l static=digest_c -L "$kit/lib" -l static=rattle_c
+(cd crates/digest_c && rt lib) > target/bench.log 2>&1 || { cat target/bench.log; exit 1; }
+rustc -O --edition 2024 -o target/bench_digest bench/digest.rs -L crates/digest_c/out -l static=digest_c
 target/bench_digest
