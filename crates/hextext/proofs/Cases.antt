@@ -66,8 +66,8 @@ in_either_case room bs text b some fits e =
     let half : length text / 2 ≡ length bs = omega arith in
     let pair : length text % 2 ≡ 0 = omega arith in
     let even : eqb (length text % 2) 0 ≡ true = grind (arith, nat_tests) in
-    let room-is : leb (length text / 2) room ≡ true = grind (arith, nat_tests) in
-    let all : readable room text ≡ true = and4 _ _ _ _ one even room-is r.digits in
+    let room_is : leb (length text / 2) room ≡ true = grind (arith, nat_tests) in
+    let all : readable room text ≡ true = and4 _ _ _ _ one even room_is r.digits in
     ap (λ t. cond t (Ok (pairs text)) (Err Malformed)) all ∙ ap (λ p. Ok p) r.same where
       and4 : (a b c d : Bool) → a ≡ true → b ≡ true → c ≡ true → d ≡ true → (a && b && c && d) ≡ true
       and4 a b c d p q r s = cc

@@ -1,6 +1,5 @@
 //! Bytes as text: two hexadecimal digits for each, written in lower case and read in either, a line at a time.
-ghost use Rattle.std.specs.Prelude.{◌≡◌, ◌+◌, ◌*◌, ◌/◌, ◌%◌, ◌<◌, ◌≤◌, true, [], ◌∷◌, ◌++◌, length, drop, Ok, Err, MatchResult};
-ghost use Rattle.std.specs.Option as options;
+ghost use Rattle.std.specs.Prelude.{◌≡◌, ◌+◌, ◌*◌, ◌/◌, ◌%◌, ◌<◌, ◌≤◌, true, [], ◌∷◌, ◌++◌, length, drop, Ok, Err, MatchOption, MatchResult};
 ghost use Rattle.hextext.specs.Hex.{after_line, all_digits, char_of, digit_of, first_line, line_length, line_of, lines_of, pairs, readable, text_of, hex_of};
 ghost use Rattle.hextext.specs.Laws.{TextLaws};
 
@@ -81,7 +80,7 @@ fn write_digits(bytes: &[u8], out: &mut [u8])
 /// Writes the bytes as a line of text, with its end, to the front of `out`, and says how many characters it has. Where
 /// `out` is too short it answers none, and `out` stays as it was.
 pub fn write_line(bytes: &[u8], out: &mut [u8]) -> Option<usize>
-    ensures cases { options.MatchOption result ((length out.old < 2 * length bytes.now + 1) × (out.new ≡ out.old)) (λ n. (n ≡ 2 * length bytes.now + 1) × (out.new ≡ text_of bytes.now ++ drop n out.old)) }
+    ensures cases { MatchOption result ((length out.old < 2 * length bytes.now + 1) × (out.new ≡ out.old)) (λ n. (n ≡ 2 * length bytes.now + 1) × (out.new ≡ text_of bytes.now ++ drop n out.old)) }
 {
     if out.is_empty() || bytes.len() > (out.len() - 1) / 2 {
         return None;
@@ -107,7 +106,7 @@ fn line_length(text: &[u8]) -> usize
 
 /// The first line of a text, without its end, and the text after it; none where the text is empty.
 pub fn next_line(text: &[u8]) -> Option<(&[u8], &[u8])>
-    ensures cases { options.MatchOption result (text.now ≡ []) (λ p. (p.0.now ≡ first_line text.now) × (p.1.now ≡ after_line text.now) × (lines_of text.now ≡ p.0.now ∷ lines_of p.1.now)) }
+    ensures cases { MatchOption result (text.now ≡ []) (λ p. (p.0.now ≡ first_line text.now) × (p.1.now ≡ after_line text.now) × (lines_of text.now ≡ p.0.now ∷ lines_of p.1.now)) }
 {
     if text.is_empty() {
         return None;

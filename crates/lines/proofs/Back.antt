@@ -43,10 +43,10 @@ reckoned_back r (c, few, fit, d) =
     let long = length_runs r.runs in
     let e1 = length-append runs (be2 r.named) in
     let count_is = back8 r.count (n ∷ (runs ++ be2 r.named)) c in
-    let runs-is : runs_of (take (16 * n) (drop 9 bs)) ≡ r.runs = ap runs_of (take_at runs (be2 r.named) (16 * n) long) ∙ runs_of_back r.runs fit in
-    let named-is : number2 (drop (9 + 16 * n) bs) ≡ r.named
+    let runs_is : runs_of (take (16 * n) (drop 9 bs)) ≡ r.runs = ap runs_of (take_at runs (be2 r.named) (16 * n) long) ∙ runs_of_back r.runs fit in
+    let named_is : number2 (drop (9 + 16 * n) bs) ≡ r.named
     = ap number2 (sym (drop-drop (16 * n) 9 bs) ∙ drop_at runs (be2 r.named) (16 * n) long ∙ sym (append-nil (be2 r.named))) ∙ back2 r.named [] d in
-    same_length bs (11 + 16 * n) _ _ (omega arith) ∙ reckoned_same _ r.count _ r.runs _ r.named count_is runs-is named-is
+    same_length bs (11 + 16 * n) _ _ (omega arith) ∙ reckoned_same _ r.count _ r.runs _ r.named count_is runs_is named_is
 
 heard_same : (c c' a a' s l l' g g' : ℕ) → c ≡ c' → a ≡ a' → l ≡ l' → g ≡ g'
     → ◌≡◌ {A = Result Entry Refusal} (Ok (heard (record { count = c; asked = a; server = s; least = l; greatest = g }))) (Ok (heard (record { count = c'; asked = a'; server = s; least = l'; greatest = g' })))

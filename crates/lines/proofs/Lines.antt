@@ -16,7 +16,7 @@ pub request_read : (bs nonce : List ℕ) → nonce ≡ take 32 (take (length bs 
     → ◌≡◌ {A = Result Entry Refusal} (Ok (request (record { server = get_or bs 0 0; nonce = nonce }))) (request_of bs)
 request_read bs nonce n all =
     let rest = left_by 1 bs (omega arith) in
-    let nonce-is : nonce ≡ drop 1 bs = n ∙ take_all 32 (take (length bs - 1) (drop 1 bs)) (omega arith) ∙ rest.0 in
+    let nonce_is : nonce ≡ drop 1 bs = n ∙ take_all 32 (take (length bs - 1) (drop 1 bs)) (omega arith) ∙ rest.0 in
     rw all (cc)
 
 pub heard_read : (bs r1 r2 r3 r4 : List ℕ) (count asked least greatest : ℕ) → count ≡ number8 bs → Left 8 bs r1 → asked ≡ number8 r1 → Left 8 r1 r2
@@ -28,9 +28,9 @@ heard_read bs r1 r2 r3 r4 count asked least greatest c p1 a p2 p3 l p4 g e =
     let at4 = left_then 17 8 bs r3 r4 at3 p4 in
     let all : length bs ≡ 33 = omega arith in
     let asked_is : asked ≡ number8 (drop 8 bs) = a ∙ ap number8 p1.0 in
-    let server-is : get_or r2 0 0 ≡ get_or bs 16 0 = ap (λ r. get_or r 0 0) at2.0 ∙ get_or-drop 16 bs 0 0 in
-    let least-is : least ≡ number8 (drop 17 bs) = l ∙ ap number8 at3.0 in
-    let greatest-is : greatest ≡ number8 (drop 25 bs) = g ∙ ap number8 at4.0 in
+    let server_is : get_or r2 0 0 ≡ get_or bs 16 0 = ap (λ r. get_or r 0 0) at2.0 ∙ get_or-drop 16 bs 0 0 in
+    let least_is : least ≡ number8 (drop 17 bs) = l ∙ ap number8 at3.0 in
+    let greatest_is : greatest ≡ number8 (drop 25 bs) = g ∙ ap number8 at4.0 in
     rw all (cc)
 
 pub reckoned_read : (bs r1 r2 runs last : List ℕ) (count named : ℕ) → count ≡ number8 bs → Left 8 bs r1 → Left 1 r1 r2
@@ -38,13 +38,13 @@ pub reckoned_read : (bs r1 r2 runs last : List ℕ) (count named : ℕ) → coun
     → ◌≡◌ {A = Result Entry Refusal} (Ok (reckoned (record { count = count; runs = runs_of runs; named = named }))) (reckoned_of bs)
 reckoned_read bs r1 r2 runs last count named c p1 p2 r l all many d =
     let at2 = left_then 8 1 bs r1 r2 p1 p2 in
-    let n-is : get_or r1 0 0 ≡ get_or bs 8 0 = ap (λ x. get_or x 0 0) p1.0 ∙ get_or-drop 8 bs 0 0 in
+    let n_is : get_or r1 0 0 ≡ get_or bs 8 0 = ap (λ x. get_or x 0 0) p1.0 ∙ get_or-drop 8 bs 0 0 in
     let len_is : length r2 - 2 ≡ 16 * get_or bs 8 0 = omega arith in
-    let all-is : length bs ≡ 11 + 16 * get_or bs 8 0 = omega arith in
-    let runs-is : runs ≡ take (16 * get_or bs 8 0) (drop 9 bs) = r ∙ ap (λ n. take n r2) len_is ∙ ap (take (16 * get_or bs 8 0)) at2.0 in
+    let all_is : length bs ≡ 11 + 16 * get_or bs 8 0 = omega arith in
+    let runs_is : runs ≡ take (16 * get_or bs 8 0) (drop 9 bs) = r ∙ ap (λ n. take n r2) len_is ∙ ap (take (16 * get_or bs 8 0)) at2.0 in
     let last_is : last ≡ drop (9 + 16 * get_or bs 8 0) bs = l ∙ ap (λ n. drop n r2) len_is ∙ ap (drop (16 * get_or bs 8 0)) at2.0 ∙ drop-drop (16 * get_or bs 8 0) 9 bs in
-    let named-is : named ≡ number2 (drop (9 + 16 * get_or bs 8 0) bs) = d ∙ ap number2 last_is in
-    rw (eq-eqb (length bs) (11 + 16 * get_or bs 8 0) all-is, runs-is, named-is, c)
+    let named_is : named ≡ number2 (drop (9 + 16 * get_or bs 8 0) bs) = d ∙ ap number2 last_is in
+    rw (eq-eqb (length bs) (11 + 16 * get_or bs 8 0) all_is, runs_is, named_is, c)
 
 -- the runs one after another
 pub no_run : (bs : List ℕ) → length bs < 16 → runs_of bs ≡ []

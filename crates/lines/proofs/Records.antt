@@ -85,8 +85,8 @@ entry_long (asked a) f = (omega arith, omega arith)
 entry_long (refused e) f = (omega arith, omega arith)
 entry_long (hand x) f = (omega arith, omega arith)
 
-entry_at_lem : (room : ℕ) (e : Entry) → 4092 ≤ room → EntryFits e → entry_at room (hex_of (bytes_of e)) ≡ Ok e
-entry_at_lem room e fits f =
+entry_read_back : (room : ℕ) (e : Entry) → 4092 ≤ room → EntryFits e → entry_at room (hex_of (bytes_of e)) ≡ Ok e
+entry_read_back room e fits f =
     let long = entry_long e f in
     ap (λ r. and_then r entry_from) (text_back room (bytes_of e) (entry_bytes e f) long.0 (omega arith)) ∙ entries_back e f
 
@@ -96,5 +96,5 @@ record_back room [] fits f = refl
 record_back room (e ∷ es) fits (here, more) =
     ap (λ t. map (entry_at room) (lines_of t)) (append_assoc (hex_of (bytes_of e)) (10 ∷ []) (record_text es))
     ∙ ap (map (entry_at room)) (line_cut (bytes_of e) (record_text es))
-    ∙ ap (λ r. r ∷ map (entry_at room) (lines_of (record_text es))) (entry_at_lem room e fits here)
+    ∙ ap (λ r. r ∷ map (entry_at room) (lines_of (record_text es))) (entry_read_back room e fits here)
     ∙ ap (λ l. Ok e ∷ l) (record_back room es fits more)

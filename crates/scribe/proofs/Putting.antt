@@ -1,5 +1,5 @@
 -- What is left in memory after bytes were written at places, one part after another.
-use Rattle.std.proofs.Common.{◌≡◌, ℕ, ◌+◌, ◌-◌, ◌*◌, ◌<◌, ◌≤◌, List, [], ◌∷◌, ◌++◌, length, get_or, take, drop, sym, ap, ◌∙◌, zero-add, arith}
+use Rattle.std.proofs.Common.{◌≡◌, ℕ, ◌+◌, ◌*◌, ◌<◌, ◌≤◌, List, [], ◌∷◌, ◌++◌, length, get_or, take, drop, sym, ap, ◌∙◌, zero-add, arith}
 use borrow.Rule.Slice.PartMut.{put_mid}
 use Rattle.std.specs.List.{flat_map}
 use Rattle.std.proofs.lemmas.List.{append_assoc, drop_at, drop-drop, flat_map_more, length-append, length-drop, length-take-le, take_all, take-append-drop, take_at, take_more}
@@ -23,10 +23,10 @@ put_none n xs = ap (λ m. take n xs ++ drop m xs) (omega arith) ∙ take-append-
 -- a part after another
 pub put_more : (n m : ℕ) (xs fs bs : List ℕ) → n + length fs ≤ length xs → m ≡ n + length fs → put_at m bs (put_at n fs xs) ≡ put_at n (fs ++ bs) xs
 unfolding put_at
-put_more n m xs fs bs h at-m =
-    let long : length (take n xs ++ fs) ≡ m = length-append (take n xs) fs ∙ ap (λ k. k + length fs) (length-take-le n xs (omega arith)) ∙ sym at-m in
+put_more n m xs fs bs h at_m =
+    let long : length (take n xs ++ fs) ≡ m = length-append (take n xs) fs ∙ ap (λ k. k + length fs) (length-take-le n xs (omega arith)) ∙ sym at_m in
     let same : take n xs ++ (fs ++ drop (n + length fs) xs) ≡ (take n xs ++ fs) ++ drop m xs
-    = sym (append_assoc (take n xs) fs (drop (n + length fs) xs)) ∙ ap (λ k. (take n xs ++ fs) ++ drop k xs) (sym at-m) in
+    = sym (append_assoc (take n xs) fs (drop (n + length fs) xs)) ∙ ap (λ k. (take n xs ++ fs) ++ drop k xs) (sym at_m) in
     let front : take m (put_at n fs xs) ≡ take n xs ++ fs = ap (take m) same ∙ take_at (take n xs ++ fs) (drop m xs) m long in
     let back : drop (m + length bs) (put_at n fs xs) ≡ drop (n + length (fs ++ bs)) xs
     = sym (drop-drop (length bs) m (put_at n fs xs))
@@ -45,7 +45,7 @@ length_put n bs xs h = simp (length-append, length-drop) (let e = length-take-le
 
 pub put_run_more : (n m : ℕ) (xs ys : List ℕ) (rs : List Run) (i : ℕ) (d : Run) → i < length rs → n + 16 * length rs ≤ length xs → m ≡ n + 16 * i
     → ys ≡ put_at n (flat_map run_bytes (take i rs)) xs → put_at m (run_bytes (get_or rs i d)) ys ≡ put_at n (flat_map run_bytes (take (i + 1) rs)) xs
-put_run_more n m xs ys rs i d h fits at-m so_far =
+put_run_more n m xs ys rs i d h fits at_m so_far =
     let long : length (flat_map run_bytes (take i rs)) ≡ 16 * i = length_runs (take i rs) ∙ ap (λ k. 16 * k) (length-take-le i rs (omega arith)) in
     let run = get_or rs i d in
     let more : flat_map run_bytes (take i rs) ++ run_bytes run ≡ flat_map run_bytes (take (i + 1) rs)

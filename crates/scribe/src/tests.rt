@@ -57,7 +57,7 @@ fn a_record(rt: HostRuntime) -> Result<(), Fail> {
         hand_bytes(&Hand {
             time: 7,
             sound: true,
-        },) == [22, 0, 0, 0, 0, 0, 0, 0, 7, 1]
+        }) == [22, 0, 0, 0, 0, 0, 0, 0, 7, 1]
     );
     assert!(rt; refused_bytes(Refusal::Full) == [21, 10]);
     Ok(())

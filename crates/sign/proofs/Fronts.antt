@@ -27,12 +27,12 @@ module _ (valid signed : List ℕ → List ℕ → List ℕ → Type 0) (law : (
       → length front + 64 ≡ length message → length front ≡ 46 → Decides r (valid key front signature) → Judged key message r
   judged key message front signature r f s all many d =
       let at46 : length message - 64 ≡ 46 = omega arith in
-      let f-is : front ≡ take 46 message = f ∙ ap (λ n. take n message) at46 in
-      let s-is : signature ≡ drop 46 message = s ∙ ap (λ n. drop n message) at46 in
+      let f_is : front ≡ take 46 message = f ∙ ap (λ n. take n message) at46 in
+      let s_is : signature ≡ drop 46 message = s ∙ ap (λ n. drop n message) at46 in
       let to : valid key front signature → valid key (take 46 message) (drop 46 message)
-      = λ v. subst (λ x. valid key (take 46 message) x) s-is (subst (λ x. valid key x signature) f-is v) in
+      = λ v. subst (λ x. valid key (take 46 message) x) s_is (subst (λ x. valid key x signature) f_is v) in
       let back : valid key (take 46 message) (drop 46 message) → valid key front signature
-      = λ v. subst (λ x. valid key x signature) (sym f-is) (subst (λ x. valid key (take 46 message) x) (sym s-is) v) in
+      = λ v. subst (λ x. valid key x signature) (sym f_is) (subst (λ x. valid key (take 46 message) x) (sym s_is) v) in
       record {
         decides = (λ yes. (omega arith, to (d.0 yes)), λ p. d.1 (back p.1));
         signs = λ yes. law key (take 46 message) (drop 46 message) (to (d.0 yes));
@@ -48,9 +48,9 @@ module _ (valid signed : List ℕ → List ℕ → List ℕ → Type 0) (law : (
 
 -- bytes and then a signature, written over zeros
 pub joined_is : (f s f' s' : List ℕ) → f' ≡ f → s' ≡ s → length f ≡ 46 → put_mid 46 64 (put_mid 0 46 (replicate 110 0) f') s' ≡ f ++ s
-joined_is f s f' s' same-f same_s many =
+joined_is f s f' s' same_f same_s many =
     let zeros = replicate 64 0 in
-    ap (λ l. put_mid 46 64 (l ++ zeros) s') same-f
+    ap (λ l. put_mid 46 64 (l ++ zeros) s') same_f
     ∙ ap (λ l. put_mid 46 64 (f ++ zeros) l) same_s
     ∙ ap (λ l. l ++ (s ++ drop 64 (drop 46 (f ++ zeros)))) (take_at f zeros 46 many)
     ∙ ap (λ l. f ++ (s ++ drop 64 l)) (drop_at f zeros 46 many)
@@ -65,15 +65,15 @@ module _ (valid : List ℕ → List ℕ → List ℕ → Type 0) where
 
   pub put_together : (key : List ℕ) (server : ℕ) (nonce : List ℕ) (midpoint radius : ℕ) (f s r : List ℕ) → length f ≡ 46 → f ≡ front_of server nonce midpoint radius
       → r ≡ f ++ s → valid key f s → Put key server nonce midpoint radius r
-  put_together key server nonce midpoint radius f s r many f-is r-is v =
-      let front-is : take 46 r ≡ f = ap (take 46) r-is ∙ take_at f s 46 many in
+  put_together key server nonce midpoint radius f s r many f_is r-is v =
+      let front_is : take 46 r ≡ f = ap (take 46) r-is ∙ take_at f s 46 many in
       let back_is : drop 46 r ≡ s = ap (drop 46) r-is ∙ drop_at f s 46 many in
       record {
         value =
             r-is
-            ∙ ap (λ l. l ++ s) f-is
+            ∙ ap (λ l. l ++ s) f_is
             ∙ ap (λ l. 2 ∷ server ∷ l) (append_assoc nonce (be8 midpoint ++ be4 radius) s)
             ∙ ap (λ l. 2 ∷ server ∷ (nonce ++ (be8 midpoint ++ (be4 radius ++ l)))) (sym back_is);
-        front = front-is ∙ f-is;
-        accepted = subst (λ x. valid key (take 46 r) x) (sym back_is) (subst (λ x. valid key x s) (sym front-is) v);
+        front = front_is ∙ f_is;
+        accepted = subst (λ x. valid key (take 46 r) x) (sym back_is) (subst (λ x. valid key x s) (sym front_is) v);
       }

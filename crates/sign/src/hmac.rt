@@ -1,7 +1,6 @@
 //! A stand-in for signatures: an authentication code under a key that both sides have.
 ghost use Rattle.std.specs.Prelude.{◌≡◌, Decides};
 ghost use Rattle.sign.specs.Stand.{stand_in};
-ghost use Rattle.std.proofs.Common.{rules};
 
 use crate::scheme::Signatures;
 use digest::hmac_sha256;
@@ -31,7 +30,7 @@ impl Signatures for HmacSignatures {
 
     ghost signed = { λ key bytes signature. signature ≡ stand_in key bytes };
 
-    ghost accepted_was_signed = { Prim.search rules };
+    ghost accepted_was_signed = { λ key bytes signature accepted. accepted };
 
     fn sign(&self, secret: &[u8; 32], bytes: &[u8]) -> [u8; 64] {
         let mut out = [0; 64];

@@ -45,28 +45,28 @@ reply_same : (s : ℕ) (n n' : List ℕ) (m m' d d' : ℕ) (g g' : List ℕ) →
 reply_same s n n' m m' d d' g g' p q r t = cc
 
 reply_back : (r : Reply) → MessageFits (reply r) → decode (Inputs.bytes_of (reply r)) ≡ Ok (reply r)
-reply_back r (nonce-long, mid, rad, sig-long) =
+reply_back r (nonce_long, mid, rad, sig_long) =
     let tail = be8 r.midpoint ++ (be4 r.radius ++ r.signature) in
     let bs = r.server ∷ (r.nonce ++ tail) in
     let e1 = length-append r.nonce tail in
     let all : length bs ≡ 109 = omega arith in
-    let nonce-is : take 32 (drop 1 bs) ≡ r.nonce = take_at r.nonce tail 32 nonce-long in
-    let at33 : drop 33 bs ≡ tail = drop_at r.nonce tail 32 nonce-long in
-    let mid-is : number8 (drop 33 bs) ≡ r.midpoint = ap number8 at33 ∙ back8 r.midpoint (be4 r.radius ++ r.signature) mid in
+    let nonce_is : take 32 (drop 1 bs) ≡ r.nonce = take_at r.nonce tail 32 nonce_long in
+    let at33 : drop 33 bs ≡ tail = drop_at r.nonce tail 32 nonce_long in
+    let mid_is : number8 (drop 33 bs) ≡ r.midpoint = ap number8 at33 ∙ back8 r.midpoint (be4 r.radius ++ r.signature) mid in
     let at41 : drop 41 bs ≡ be4 r.radius ++ r.signature = sym (drop-drop 8 33 bs) ∙ ap (drop 8) at33 in
-    let rad-is : number4 (drop 41 bs) ≡ r.radius = ap number4 at41 ∙ back4 r.radius r.signature rad in
-    let sig-is : drop 45 bs ≡ r.signature = sym (drop-drop 4 41 bs) ∙ ap (drop 4) at41 in
-    same_length bs 109 _ _ all ∙ reply_same r.server _ r.nonce _ r.midpoint _ r.radius _ r.signature nonce-is mid-is rad-is sig-is
+    let rad_is : number4 (drop 41 bs) ≡ r.radius = ap number4 at41 ∙ back4 r.radius r.signature rad in
+    let sig_is : drop 45 bs ≡ r.signature = sym (drop-drop 4 41 bs) ∙ ap (drop 4) at41 in
+    same_length bs 109 _ _ all ∙ reply_same r.server _ r.nonce _ r.midpoint _ r.radius _ r.signature nonce_is mid_is rad_is sig_is
 
 settings_back : (s : Setup) → MessageFits (settings s) → decode (Inputs.bytes_of (settings s)) ≡ Ok (settings s)
 settings_back s (good, long) =
     let bs = s.servers ∷ s.faulty ∷ (be4 s.drift ++ s.keys) in
     let small : s.drift < 2 ^ 32 = grind (arith, nat_tests) in
-    let drift-is : number4 (drop 2 bs) ≡ s.drift = back4 s.drift s.keys small in
-    let fits : in_range s.servers s.faulty (number4 (drop 2 bs)) ≡ true = ap (in_range s.servers s.faulty) drift-is ∙ good in
+    let drift_is : number4 (drop 2 bs) ≡ s.drift = back4 s.drift s.keys small in
+    let fits : in_range s.servers s.faulty (number4 (drop 2 bs)) ≡ true = ap (in_range s.servers s.faulty) drift_is ∙ good in
     same_length bs (6 + 32 * s.servers) _ _ (omega arith)
     ∙ ap (λ b. cond b (Ok (settings (record { servers = s.servers; faulty = s.faulty; drift = number4 (drop 2 bs); keys = s.keys }))) (Err OutOfRange)) fits
-    ∙ ap (λ d. Ok (settings (record { servers = s.servers; faulty = s.faulty; drift = d; keys = s.keys }))) drift-is
+    ∙ ap (λ d. Ok (settings (record { servers = s.servers; faulty = s.faulty; drift = d; keys = s.keys }))) drift_is
 
 pub messages_back : MessagesReadBack
 messages_back (reply r) h = reply_back r h

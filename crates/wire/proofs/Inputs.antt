@@ -17,10 +17,10 @@ reply_read bs r1 r2 r3 r4 nonce signature midpoint radius p1 n p2 m p3 d p4 s l 
     let at3 = left_then 33 8 bs r2 r3 at2 p3 in
     let at4 = left_then 41 4 bs r3 r4 at3 p4 in
     let all : length bs ≡ 109 = omega arith in
-    let nonce-is : nonce ≡ take 32 (drop 1 bs) = n ∙ ap (take 32) p1.0 in
-    let midpoint-is : midpoint ≡ number8 (drop 33 bs) = m ∙ ap number8 at2.0 in
-    let radius-is : radius ≡ number4 (drop 41 bs) = d ∙ ap number4 at3.0 in
-    let signature-is : signature ≡ drop 45 bs = s ∙ take_all 64 r4 (omega arith) ∙ at4.0 in
+    let nonce_is : nonce ≡ take 32 (drop 1 bs) = n ∙ ap (take 32) p1.0 in
+    let midpoint_is : midpoint ≡ number8 (drop 33 bs) = m ∙ ap number8 at2.0 in
+    let radius_is : radius ≡ number4 (drop 41 bs) = d ∙ ap number4 at3.0 in
+    let signature_is : signature ≡ drop 45 bs = s ∙ take_all 64 r4 (omega arith) ∙ at4.0 in
     rw all (cc)
 
 pub settings_read : (bs r1 keys : List ℕ) (drift : ℕ) → Left 2 bs r1 → drift ≡ number4 r1 → Left 4 r1 keys
@@ -28,18 +28,18 @@ pub settings_read : (bs r1 keys : List ℕ) (drift : ℕ) → Left 2 bs r1 → d
     → ◌≡◌ {A = Result Message Refusal} (Ok (settings (record { servers = get_or bs 0 0; faulty = get_or bs 1 0; drift = drift; keys = keys }))) (setup_of bs)
 settings_read bs r1 keys drift p1 d p2 l good =
     let at2 = left_then 2 4 bs r1 keys p1 p2 in
-    let drift-is : drift ≡ number4 (drop 2 bs) = d ∙ ap number4 p1.0 in
+    let drift_is : drift ≡ number4 (drop 2 bs) = d ∙ ap number4 p1.0 in
     let all = eq-eqb (length bs) (6 + 32 * get_or bs 0 0) (omega arith) in
-    let fits : in_range (get_or bs 0 0) (get_or bs 1 0) (number4 (drop 2 bs)) ≡ true = ap (in_range (get_or bs 0 0) (get_or bs 1 0)) (sym drift-is) ∙ good in
-    rw (all, fits, at2.0, drift-is)
+    let fits : in_range (get_or bs 0 0) (get_or bs 1 0) (number4 (drop 2 bs)) ≡ true = ap (in_range (get_or bs 0 0) (get_or bs 1 0)) (sym drift_is) ∙ good in
+    rw (all, fits, at2.0, drift_is)
 
 pub settings_out : (bs r1 keys : List ℕ) (drift : ℕ) → Left 2 bs r1 → drift ≡ number4 r1 → Left 4 r1 keys
     → length keys ≡ 32 * get_or bs 0 0 → in_range (get_or bs 0 0) (get_or bs 1 0) drift ≡ false
     → ◌≡◌ {A = Result Message Refusal} (Err OutOfRange) (setup_of bs)
 settings_out bs r1 keys drift p1 d p2 l bad =
-    let drift-is : drift ≡ number4 (drop 2 bs) = d ∙ ap number4 p1.0 in
+    let drift_is : drift ≡ number4 (drop 2 bs) = d ∙ ap number4 p1.0 in
     let all = eq-eqb (length bs) (6 + 32 * get_or bs 0 0) (omega arith) in
-    let out : in_range (get_or bs 0 0) (get_or bs 1 0) (number4 (drop 2 bs)) ≡ false = ap (in_range (get_or bs 0 0) (get_or bs 1 0)) (sym drift-is) ∙ bad in
+    let out : in_range (get_or bs 0 0) (get_or bs 1 0) (number4 (drop 2 bs)) ≡ false = ap (in_range (get_or bs 0 0) (get_or bs 1 0)) (sym drift_is) ∙ bad in
     rw (all, out)
 
 -- the kind decides how the rest is read, and none is 0, so that there is a kind

@@ -27,10 +27,10 @@ pub returns : goal.returns
 returns c =
     let text = c.args.text.now in
     let long = length_pairs text in
-    let i-is : c.loop-i.i ≡ length text / 2 = omega arith in
+    let i_is : c.loop-i.i ≡ length text / 2 = omega arith in
     record {
       after =
           c.loop-i.invariant
           ∙ ap (λ l. l ++ drop c.loop-i.i c.args.out.now) (take_all c.loop-i.i (pairs text) (omega arith))
-          ∙ ap (λ n. pairs text ++ drop n c.args.out.now) i-is;
+          ∙ ap (λ n. pairs text ++ drop n c.args.out.now) i_is;
     }

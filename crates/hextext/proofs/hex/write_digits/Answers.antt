@@ -12,10 +12,10 @@ loop-i-preserved c =
 pub returns : goal.returns
 returns c =
     let bytes = c.args.bytes.now in
-    let i-is : 2 * c.loop-i.i ≡ 2 * length bytes = omega arith in
+    let i_is : 2 * c.loop-i.i ≡ 2 * length bytes = omega arith in
     record {
       after =
           c.loop-i.invariant
           ∙ ap (λ l. hex_of l ++ drop (2 * c.loop-i.i) c.args.out.now) (take_all c.loop-i.i bytes c.loop-i-test.false)
-          ∙ ap (λ n. hex_of bytes ++ drop n c.args.out.now) i-is;
+          ∙ ap (λ n. hex_of bytes ++ drop n c.args.out.now) i_is;
     }

@@ -8,7 +8,7 @@ pub returns : goal.returns
 returns c =
     let from = ap length c.to_be_bytes.ensures in
     let to = ap length c.to_be_bytes-2.ensures in
-    let at-middle = c.put-middle.ensures.value in
+    let at_middle = c.put-middle.ensures.value in
     let first = c.put-middle.ensures.after ∙ ap (λ bs. put_at c.args.at bs c.args.out.now) c.to_be_bytes.ensures in
     let second = c.put.ensures.after ∙ ap (λ bs. put_at c.put-middle.result bs c.put-middle.new.out) c.to_be_bytes-2.ensures in
     record {
