@@ -1,10 +1,10 @@
 -- Pending requests as askings of a run: what closing, answering, and a moment more leave of them.
-use Rattle.std.proofs.Common.{◌≡◌, ℕ, zero, suc, ◌+◌, ◌-◌, ◌<◌, ◌≤◌, max, Bool, true, false, cond, not, ◌≢◌, List, [], ◌∷◌, ◌++◌, map, length, get_or, take, drop, set, Some, None, filter, sym, refl, ap, ◌∙◌, subst, ⊎_elim, add-one, arith, length-append, length-drop, get_or-set_other, get_or-set_same}
-use Rattle.std.specs.List.{remove, AllByRecursion as All}
+use Rattle.std.proofs.Common.{◌≡◌, ℕ, zero, suc, ◌+◌, ◌-◌, ◌<◌, ◌≤◌, Bool, true, false, cond, ◌≢◌, List, [], ◌∷◌, ◌++◌, map, length, get_or, drop, set, filter, sym, refl, ap, ◌∙◌, ⊎_elim, add-one, arith, length-append, length-drop, get_or-set_other, get_or-set_same}
+use Rattle.std.specs.List.{remove, AllByRecursion}
 use Rattle.std.proofs.lemmas.List.{get_or_append_left, get_or-append_right, get_or-drop, length-set}
 use Rattle.std.proofs.ByRecursion.{All-get_or, All-from_get_or}
 use Rattle.std.proofs.lemmas.Bool.{cases_lt, cases_eq}
-use Rattle.span.specs.World.{Event, Asks}
+use Rattle.span.specs.World.{Event}
 use Rattle.choice.specs.declared.row.Claim.{Claim}
 use Rattle.trail.specs.declared.Moment.{Moment}
 use Rattle.window.specs.Ring.{claimed, nothing}
@@ -14,14 +14,14 @@ use Rattle.requests.proofs.Reach.{reach_each}
 use Rattle.exchange.specs.Stands.{event_at, ticks_of, is_mark, Awaits, Falls, Seen}
 
 -- some of them
-pub all_kept : {X : Type 0} (P : X → Type 0) (p : X → Bool) (xs : List X) → All P xs → All P (filter p xs)
+pub all_kept : {X : Type 0} (P : X → Type 0) (p : X → Bool) (xs : List X) → AllByRecursion P xs → AllByRecursion P (filter p xs)
 all_kept P p [] h = tt
 all_kept P p (x ∷ xs) h = go (p x) (all_kept P p xs h.1) where
-  go : (b : Bool) → All P (filter p xs) → All P (cond b (x ∷ filter p xs) (filter p xs))
+  go : (b : Bool) → AllByRecursion P (filter p xs) → AllByRecursion P (cond b (x ∷ filter p xs) (filter p xs))
   go true k = (h.0, k)
   go false k = k
 
-pub all_removed : {X : Type 0} (P : X → Type 0) (xs : List X) (i : ℕ) → All P xs → All P (remove xs i)
+pub all_removed : {X : Type 0} (P : X → Type 0) (xs : List X) (i : ℕ) → AllByRecursion P xs → AllByRecursion P (remove xs i)
 all_removed P [] zero h = tt
 all_removed P [] (suc i) h = tt
 all_removed P (x ∷ xs) zero h = h.1
@@ -59,29 +59,29 @@ falls_later b [] f = tt
 falls_later b (q ∷ qs) f = (omega (arith, f.0), falls_later q.since qs f.1)
 
 -- one more, asked just now
-pub falls_push : (b : ℕ) (qs : List Request) (q : Request) → 0 < b → q.since ≡ 0 → Falls b qs → All (λ x. 0 < x.since) qs → Falls b (qs ++ q ∷ [])
+pub falls_push : (b : ℕ) (qs : List Request) (q : Request) → 0 < b → q.since ≡ 0 → Falls b qs → AllByRecursion (λ x. 0 < x.since) qs → Falls b (qs ++ q ∷ [])
 unfolding Falls
 falls_push b [] q h e f a = (omega (arith, e), tt)
 falls_push b (x ∷ qs) q h e f a = (f.0, falls_push x.since qs q a.0 e f.1 a.1)
 
-pub later_some : (qs : List Request) → All (λ x. 0 < x.since) (map later_by qs)
+pub later_some : (qs : List Request) → AllByRecursion (λ x. 0 < x.since) (map later_by qs)
 later_some [] = tt
 later_some (q ∷ qs) = (omega arith, later_some qs)
 
 -- the one at a place is the only one of its moment
-below_all : (b : ℕ) (qs : List Request) → Falls b qs → All (λ x. x.since < b) qs
+below_all : (b : ℕ) (qs : List Request) → Falls b qs → AllByRecursion (λ x. x.since < b) qs
 unfolding Falls
 below_all b [] f = tt
 below_all b (q ∷ qs) f = (f.0, weaker q.since b qs (omega (arith, f.0)) (below_all q.since qs f.1)) where
-  weaker : (a c : ℕ) (xs : List Request) → a ≤ c → All (λ x. x.since < a) xs → All (λ x. x.since < c) xs
+  weaker : (a c : ℕ) (xs : List Request) → a ≤ c → AllByRecursion (λ x. x.since < a) xs → AllByRecursion (λ x. x.since < c) xs
   weaker a c [] h k = tt
   weaker a c (x ∷ xs) h k = (omega (arith, k.0), weaker a c xs h k.1)
 
-all_off : (b : ℕ) (qs : List Request) → All (λ x. x.since < b) qs → All (λ x. x.since ≢ b) qs
+all_off : (b : ℕ) (qs : List Request) → AllByRecursion (λ x. x.since < b) qs → AllByRecursion (λ x. x.since ≢ b) qs
 all_off b [] h = tt
 all_off b (q ∷ qs) h = (omega (arith, h.0), all_off b qs h.1)
 
-pub others_apart : (b : ℕ) (qs : List Request) (i : ℕ) → i < length qs → Falls b qs → All (λ x. x.since ≢ (get_or qs i no_request).since) (remove qs i)
+pub others_apart : (b : ℕ) (qs : List Request) (i : ℕ) → i < length qs → Falls b qs → AllByRecursion (λ x. x.since ≢ (get_or qs i no_request).since) (remove qs i)
 unfolding Falls
 others_apart b [] i h f = absurd (omega arith)
 others_apart b (q ∷ qs) zero h f = all_off q.since qs (below_all q.since qs f.1)
@@ -90,15 +90,15 @@ others_apart b (q ∷ qs) (suc i) h f =
     (omega (arith, below), others_apart q.since qs i (omega arith) f.1)
 
 -- each one is near enough
-pub reach_all : (qs : List Request) → All (λ x. x.since < reach_of qs) qs
+pub reach_all : (qs : List Request) → AllByRecursion (λ x. x.since < reach_of qs) qs
 reach_all qs = All-from_get_or (λ x. x.since < reach_of qs) qs no_request (reach_each qs)
 
 -- one thing of each from two others
-pub all_both : {X Y : Type 0} (f : X → Y) (P Q : X → Type 0) (R : Y → Type 0) → ((x : X) → P x → Q x → R (f x)) → (xs : List X) → All P xs → All Q xs → All R (map f xs)
+pub all_both : {X Y : Type 0} (f : X → Y) (P Q : X → Type 0) (R : Y → Type 0) → ((x : X) → P x → Q x → R (f x)) → (xs : List X) → AllByRecursion P xs → AllByRecursion Q xs → AllByRecursion R (map f xs)
 all_both f P Q R g [] h k = tt
 all_both f P Q R g (x ∷ xs) h k = (g x h.0 k.0, all_both f P Q R g xs h.1 k.1)
 
-pub all_two : {X : Type 0} (P Q R : X → Type 0) → ((x : X) → P x → Q x → R x) → (xs : List X) → All P xs → All Q xs → All R xs
+pub all_two : {X : Type 0} (P Q R : X → Type 0) → ((x : X) → P x → Q x → R x) → (xs : List X) → AllByRecursion P xs → AllByRecursion Q xs → AllByRecursion R xs
 all_two P Q R g [] h k = tt
 all_two P Q R g (x ∷ xs) h k = (g x h.0 k.0, all_two P Q R g xs h.1 k.1)
 
