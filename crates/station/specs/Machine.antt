@@ -1,10 +1,9 @@
 -- What the box holds once it is set up, and what each message makes of it.
-use Rattle.std.specs.Prelude.{◌≡◌, ℕ, Bool, true, false, cond, List, Some, None, Ok, Err, vec_items, Option, Result}
+use Rattle.std.specs.Prelude.{◌≡◌, ℕ, Bool, false, cond, List, Some, None, Ok, Err, vec_items, Option, Result}
 use Rattle.choice.specs.declared.runs.Run.{Run}
 use Rattle.hand.specs.declared.Hand.{Hand}
 use Rattle.hand.specs.Hand.{heard, passed, lost}
 use Rattle.exchange.specs.declared.made.Made.{Made}
-use Rattle.exchange.specs.declared.made.Heard as made
 use Rattle.exchange.specs.State.{State, state_of, runs_of}
 use Rattle.exchange.specs.Calls as calls
 use Rattle.exchange.specs.Stands.{ShowsOn, AsksOn, MarksOn}

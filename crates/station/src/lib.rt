@@ -7,7 +7,7 @@ use exchange::Exchange;
 use hand::Hand;
 
 pub mod answer;
-mod machine;
+mod calls;
 
 // The box once it is set up: its reckoning, its hand, and the servers' keys, 32 bytes each, one after another.
 #[derive(Drop)]
