@@ -1,10 +1,10 @@
 -- Pending requests as askings of a run: what closing, answering, and a moment more leave of them.
-use Rattle.std.proofs.Common.{◌≡◌, ℕ, zero, suc, ◌+◌, ◌-◌, ◌<◌, ◌≤◌, max, Bool, true, false, cond, not, ◌≢◌, List, [], ◌∷◌, ◌++◌, map, length, get_or, take, drop, set, Some, None, filter, sym, refl, ap, ◌∙◌, subst, ⊎_elim, add-one, arith, length-append, length-drop, get_or-set_other, get_or-set_same}
+use Rattle.std.proofs.Common.{◌≡◌, ℕ, zero, suc, ◌+◌, ◌-◌, ◌<◌, ◌≤◌, Bool, true, false, cond, ◌≢◌, List, [], ◌∷◌, ◌++◌, map, length, get_or, drop, set, filter, sym, refl, ap, ◌∙◌, ⊎_elim, add-one, arith, length-append, length-drop, get_or-set_other, get_or-set_same}
 use Rattle.std.specs.List.{remove, AllByRecursion}
 use Rattle.std.proofs.lemmas.List.{get_or_append_left, get_or-append_right, get_or-drop, length-set}
 use Rattle.std.proofs.ByRecursion.{All-get_or, All-from_get_or}
 use Rattle.std.proofs.lemmas.Bool.{cases_lt, cases_eq}
-use Rattle.span.specs.World.{Event, Asks}
+use Rattle.span.specs.World.{Event}
 use Rattle.choice.specs.declared.row.Claim.{Claim}
 use Rattle.trail.specs.declared.Moment.{Moment}
 use Rattle.window.specs.Ring.{claimed, nothing}

@@ -1,30 +1,27 @@
 -- After each call an exchange stands for the run with this call's moment, or begins anew if no world is left.
-use Rattle.std.proofs.Common.{◌≡◌, ℕ, zero, suc, ◌+◌, ◌-◌, ◌<◌, ◌≤◌, Bool, true, false, cond, not, leb, List, [], ◌∷◌, ◌++◌, map, length, get_or, take, drop, Some, None, Ok, Err, filter, Option, Result, sym, refl, ap, ◌∙◌, subst, ap₂, arith}
+use Rattle.std.proofs.Common.{◌≡◌, ℕ, zero, suc, ◌+◌, ◌-◌, ◌<◌, ◌≤◌, Bool, true, false, cond, not, List, [], ◌∷◌, length, get_or, take, drop, Some, None, Ok, Err, Option, Result, sym, refl, ap, ◌∙◌, subst, arith}
 use Rattle.std.specs.List.{AllByRecursion}
 use Rattle.std.proofs.ByRecursion.{All-get_or}
 use Rattle.std.proofs.lemmas.Bool.{both_ways, not-true, not-false, le-leb, ltb-false, eqb-true, and_parts}
 use Rattle.std.proofs.lemmas.List.{length-set}
 use Rattle.std.proofs.lemmas.Bool.Decides.{nat_tests}
 use Rattle.span.specs.Span.{ceiling}
-use Rattle.span.specs.World.{Deed, Event, Rules, Faulty, how_many, World, begins, Shows, Marks, Asks, Accepts}
+use Rattle.span.specs.World.{Event, Rules, how_many, World, begins, Shows, Marks, Asks, Accepts}
 use Rattle.span.specs.Model.{put, moments, lowest}
 use Rattle.span.specs.Model as model
-use Rattle.choice.specs.declared.row.Claim.{Claim}
 use Rattle.choice.specs.declared.row.Claim.TheVariants.{AtMost, AtLeast}
 use Rattle.choice.specs.declared.runs.Run.{Run}
 use Rattle.choice.specs.Row.{any_span, has_times}
 use Rattle.choice.specs.Stands as choice
 use Rattle.choice.proofs.Standing.{left_row}
-use Rattle.trail.specs.Trail.{moment_of}
 use Rattle.window.specs.View.{View}
 use Rattle.window.specs.Stands.{Parts, from_ceiling}
 use Rattle.window.specs.Steps as window
 use Rattle.window.proofs.Stays.{stays_anew}
-use Rattle.requests.specs.declared.request.Request.{Request}
-use Rattle.requests.specs.declared.request.Over.TheVariants.{Age, Far, Any}
+use Rattle.requests.specs.declared.request.Over.TheVariants.{Age, Far}
 use Rattle.requests.specs.declared.request.Standing.{Standing}
 use Rattle.requests.specs.declared.request.Standing.TheVariants.{Unknown, Late, Pending}
-use Rattle.requests.specs.Request.{over, is_for, alike, reach_of, no_request, later_by}
+use Rattle.requests.specs.Request.{over, alike, reach_of, no_request}
 use Rattle.requests.specs.Book.{oldest_like, standing_of}
 use Rattle.requests.proofs.Firsts.{first_true, first_le, like_self}
 use Rattle.wire.specs.declared.refusal.Refusal.{Refusal}
@@ -33,8 +30,8 @@ use Rattle.window.specs.Ring.{claimed, nothing}
 use Rattle.exchange.specs.declared.made.Made.{Made}
 use Rattle.exchange.specs.declared.made.Heard.{Heard}
 use Rattle.exchange.specs.State.{State}
-use Rattle.exchange.specs.Steps.{moment_now, momented, is_lost, restarted, finished, clocked, is_put_off, nearer, replied, taken_for, shown_by, asked_by, marked_by, accepted_by, show_refusal, reply_refusal, in_range, by_standing, place_of}
-use Rattle.exchange.specs.Stands.{Said, happens, event_at, ticks_of, Answers, is_mark, Awaits, Falls, Formed, Holds, Stands, Follows, ShowsOn, AsksOn, MarksOn, Replies, AcceptsOn}
+use Rattle.exchange.specs.Steps.{moment_now, is_lost, restarted, finished, clocked, nearer, replied, taken_for, shown_by, asked_by, marked_by, accepted_by, reply_refusal, in_range, by_standing, place_of}
+use Rattle.exchange.specs.Stands.{Said, happens, event_at, ticks_of, Awaits, Falls, Formed, Holds, Stands, Follows, ShowsOn, AsksOn, MarksOn, AcceptsOn}
 use Rattle.exchange.specs.Calls.{Makes, Refuses, PutsOff, ShowsNow, AsksNow, MarksNow, AcceptsNow, answering}
 use Rattle.exchange.specs.Calls as calls
 use Rattle.exchange.proofs.Views.{reach_kept, reach_near, none_left, standing_at, reach_answered}

@@ -1,5 +1,5 @@
 -- What is kept stays that of the run, step by step.
-use Rattle.std.proofs.Common.{◌≡◌, ℕ, ◌+◌, ◌-◌, ◌<◌, ◌≤◌, Bool, true, false, cond, not, ◌≢◌, List, [], ◌∷◌, ◌++◌, map, length, get_or, take, drop, set, Some, None, filter, sym, refl, ap, ◌∙◌, subst, ⊎_elim, add-one, arith, length-append, length-drop, get_or-set_other, get_or-set_same}
+use Rattle.std.proofs.Common.{◌≡◌, ℕ, ◌+◌, ◌-◌, ◌<◌, ◌≤◌, Bool, true, false, cond, ◌≢◌, List, [], ◌∷◌, ◌++◌, map, length, get_or, take, drop, set, None, filter, sym, refl, ap, ◌∙◌, subst, ⊎_elim, add-one, arith, length-append, get_or-set_other, get_or-set_same}
 use Rattle.std.specs.List.{remove, AllByRecursion}
 use Rattle.std.proofs.ByRecursion.{All-get_or, All-set, All-append}
 use Rattle.std.proofs.lemmas.List.{get_or-append_right, length-set}
@@ -13,13 +13,11 @@ use Rattle.trail.specs.Trail.{moment_of}
 use Rattle.window.specs.Ring.{claimed, nothing}
 use Rattle.window.specs.View.{View}
 use Rattle.window.specs.Steps.{mark_at, made_by, forgot, settled, older, aged, is_full, roomy, place_of, with_claim, answered}
-use Rattle.window.specs.Stands.{Parts}
-use Rattle.window.proofs.Stays.{stays_made, stays_forgot, stays_settled, stays_answered, aged_few, aged_long, roomy_long}
+use Rattle.window.proofs.Stays.{stays_made, stays_forgot, stays_settled, stays_answered, aged_few, roomy_long}
 use Rattle.requests.specs.declared.request.Request.{Request}
 use Rattle.requests.specs.Request.{later_by, no_request, reach_of, renonced}
 use Rattle.requests.specs.Book.{Book, oldest_like, answered_at}
-use Rattle.requests.proofs.Known.{reach_removed, reach_renonced}
-use Rattle.exchange.specs.Stands.{event_at, ticks_of, is_mark, Answers, Formed, Awaits, Falls, Seen, Holds}
+use Rattle.exchange.specs.Stands.{ticks_of, is_mark, Answers, Formed, Awaits, Falls, Holds}
 use Rattle.exchange.proofs.Views.{settled_lag, settled_kept, roomy_lag, reach_answered}
 use Rattle.exchange.proofs.Awaiting.{SeenAll, all_kept, all_removed, all_both, all_two, falls_kept, falls_removed, falls_renonced, falls_later, falls_push, later_some, others_apart, reach_all, awaits_later, awaits_forgot, awaits_claimed, seen_made, seen_forgot, seen_claimed}
 

@@ -1,26 +1,21 @@
 -- What is said is exact of every run that an exchange stands for.
-use Rattle.std.proofs.Common.{◌≡◌, ℕ, ◌+◌, ◌-◌, ◌<◌, ◌≤◌, Bool, true, false, cond, ◌&&◌, eqb, ltb, leb, List, [], ◌∷◌, length, get_or, take, drop, Some, None, Decides, Option, sym, refl, ap, ◌∙◌, subst, ⊎_elim, arith}
+use Rattle.std.proofs.Common.{◌≡◌, ℕ, ◌-◌, ◌<◌, true, false, eqb, leb, List, length, get_or, Some, None, Decides, sym, refl, ap, ◌∙◌, subst, ⊎_elim, arith}
 use Rattle.std.proofs.lemmas.List.{get_or_past}
 use Rattle.std.proofs.lemmas.Bool.{both_ways, and_parts, leb-true, eqb-true, cases_lt}
 use Rattle.span.specs.World.{Deed, Event, Rules, World, Shows, Marks, Asks, Accepts}
-use Rattle.span.specs.Model.{moments}
 use Rattle.choice.specs.declared.runs.Run.{Run}
 use Rattle.choice.specs.Choice.{bit}
 use Rattle.choice.specs.Promise.{FaultyInAll}
-use Rattle.choice.specs.Runs.{in_runs}
 use Rattle.choice.specs.Stands.{NamesExact}
-use Rattle.choice.specs.Past.{WorldAt}
 use Rattle.choice.proofs.Standing.{may_row}
-use Rattle.past.specs.Event.{LeastAndGreatest, SaidExact}
+use Rattle.past.specs.Event.{SaidExact}
 use Rattle.window.specs.Ring.{nothing}
-use Rattle.window.specs.Steps.{said_at}
-use Rattle.requests.specs.Request.{first_of}
 use Rattle.requests.specs.Book.{place_in}
 use Rattle.requests.proofs.Firsts.{first_true}
 use Rattle.requests.proofs.Closing.{found_at}
 use Rattle.exchange.specs.State.{State}
 use Rattle.exchange.specs.Steps.{an_hour, is_event, is_this}
-use Rattle.exchange.specs.Stands.{event_at, ticks_of, is_mark, Stands, SaysWorlds, NamesWorlds}
+use Rattle.exchange.specs.Stands.{event_at, is_mark, Stands, SaysWorlds, NamesWorlds}
 use Rattle.exchange.specs.Events.{EventIs}
 use Rattle.exchange.proofs.Following.{row_stands, ticks_split}
 

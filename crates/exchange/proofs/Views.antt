@@ -1,5 +1,5 @@
 -- What the steps of a window leave of its mark and its choices, and those of requests of their reach.
-use Rattle.std.proofs.Common.{◌≡◌, ℕ, ◌+◌, ◌^◌, ◌<◌, ◌≤◌, max, Bool, true, false, cond, not, eqb, ltb, leb, List, [], ◌∷◌, length, get_or, set, filter, sym, refl, ap, ◌∙◌, subst, ⊎_elim, arith, length-take}
+use Rattle.std.proofs.Common.{◌≡◌, ℕ, ◌+◌, ◌^◌, ◌<◌, ◌≤◌, max, Bool, true, false, cond, not, eqb, ltb, leb, List, [], ◌∷◌, length, get_or, set, filter, sym, refl, subst, ⊎_elim, arith, length-take}
 use Rattle.std.proofs.lemmas.Bool.{eqb-true, eqb-false, leb-false, ltb-true, and_cases, cases_lt}
 use Rattle.window.specs.View.{View}
 use Rattle.window.specs.Steps.{marked_here, marked_on, settled, forgot, aged, is_full, roomy}

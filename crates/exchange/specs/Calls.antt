@@ -1,5 +1,5 @@
 -- What each call answers, and what it leaves: a refusal leaves all as it was.
-use Rattle.std.specs.Prelude.{◌≡◌, ℕ, ◌+◌, ◌-◌, ◌^◌, Bool, true, false, List, Some, None, Ok, Err, Option, Result}
+use Rattle.std.specs.Prelude.{◌≡◌, ℕ, ◌+◌, ◌-◌, ◌^◌, true, false, List, Some, None, Ok, Err, Option, Result}
 use Rattle.choice.specs.declared.runs.Run.{Run}
 use Rattle.choice.specs.Choice.{chosen}
 use Rattle.window.specs.Steps.{begun}

@@ -1,5 +1,5 @@
 -- What is said of a past event: the least and the greatest time that some world of the run has at its moment.
-use Rattle.std.specs.Prelude.{◌≡◌, ℕ, suc, ◌+◌, ◌-◌, ◌<◌, ◌≤◌, List, ◌∷◌, length, take, Some, None, Ok, Err, Option, Result}
+use Rattle.std.specs.Prelude.{◌≡◌, ℕ, ◌+◌, ◌-◌, ◌<◌, ◌≤◌, List, length, take, Some, None, Ok, Err, Result}
 use Rattle.span.specs.World.{Event, Rules, Marks}
 use Rattle.choice.specs.declared.runs.Run.{Run}
 use Rattle.choice.specs.Past.{WorldAt}

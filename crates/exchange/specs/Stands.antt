@@ -1,5 +1,5 @@
 -- When an exchange stands for a run of events, and what is said then. Nothing here speaks of what is kept in place of the run: only the relation does.
-use Rattle.std.specs.Prelude.{◌≡◌, ℕ, ◌+◌, ◌-◌, ◌<◌, Bool, true, false, List, [], ◌∷◌, length, get_or, take, drop, Some, None, Ok, Err, Decides, Option, Result, slice_index_or}
+use Rattle.std.specs.Prelude.{◌≡◌, ℕ, ◌+◌, ◌-◌, ◌<◌, Bool, true, false, List, [], ◌∷◌, length, take, drop, Some, None, Ok, Err, Decides, Option, Result, slice_index_or}
 use Rattle.std.specs.List.{AllByRecursion}
 use Rattle.span.specs.Span.{is_in}
 use Rattle.span.specs.World.{Deed, Event, Rules, World, Shows, Marks, Asks, Accepts}
@@ -60,7 +60,7 @@ pub record Awaits (begun : ℕ) (es : List Event) (kept : List Moment) (q : Requ
   pub there : q.since < length es
   pub asked : (event_at es q.since).deed ≡ Asks q.server
   pub counted : q.count ≡ begun + ticks_of (drop q.since es)
-  pub free : (get_or kept (length kept - 1 - q.since) nothing).claim ≡ None
+  pub free : (slice_index_or kept (length kept - 1 - q.since) nothing).claim ≡ None
 
 -- the pending requests were made one after another
 unfoldable pub Falls : ℕ → List Request → Type 0

@@ -1,5 +1,5 @@
 -- What each call makes of the state, and when it is refused.
-use Rattle.std.specs.Prelude.{ℕ, ◌+◌, ◌-◌, ◌^◌, Bool, true, false, cond, not, ◌&&◌, ◌||◌, List, [], ◌∷◌, length, Some, None, filter, Option, ◌==◌, nat_le, nat_lt, slice_index_or}
+use Rattle.std.specs.Prelude.{ℕ, ◌-◌, ◌^◌, Bool, true, false, cond, not, ◌&&◌, List, length, Some, None, filter, Option, ◌==◌, nat_le, nat_lt, slice_index_or}
 use Rattle.span.specs.Span.{ceiling}
 use Rattle.choice.specs.declared.row.Claim.{Claim}
 use Rattle.choice.specs.declared.row.Claim.TheVariants.{AtMost, AtLeast}

@@ -1,16 +1,16 @@
-use Rattle.std.proofs.Common.{◌≡◌, ◌+◌, ◌-◌, true, false, Some, None, Ok, sym, ap, ◌∙◌, subst, arith}
+use Rattle.std.proofs.Common.{◌≡◌, ◌+◌, ◌-◌, false, Some, Ok, sym, ap, ◌∙◌, subst, arith}
 use Rattle.choice.specs.declared.row.Claim.TheVariants.{AtLeast}
 use Rattle.requests.specs.Book.{standing_of}
 use Rattle.exchange.specs.declared.made.Heard.{Heard}
 use Rattle.exchange.specs.State.{state_of, runs_of}
-use Rattle.exchange.specs.Steps.{momented, nearer, replied, taken_for, place_of, accepted_by}
+use Rattle.exchange.specs.Steps.{momented, nearer, replied, taken_for, place_of}
 use Rattle.exchange.specs.Calls.{Makes, AcceptsNow}
 use Rattle.exchange.proofs.Views.{standing_at, in_range_lem}
 use Rattle.exchange.proofs.Following.{accepts_on}
 use Rattle.exchange.proofs.Exchange.accept.Goals as goal
 
-pub take-reply-asked-requires : goal.take-reply-asked-requires
-take-reply-asked-requires c =
+pub take_reply-asked-requires : goal.take_reply-asked-requires
+take_reply-asked-requires c =
     let x = c.args.self.now in
     let s = state_of x in
     let at = standing_at c.args.server c.args.nonce.now s.book c.in-Ok.place c.in-Ok.ensures.cases.2 in
@@ -26,16 +26,16 @@ returns c =
     let told = c.in-Ok.ensures.cases in
     let place : place_of (standing_of v c.args.nonce.now s.book) ≡ c.in-Ok.place = ap place_of told.2 in
     let range = in_range_lem v m d s told.1 in
-    let low : c.saturating-sub-least.result ≡ m - d = omega (arith, c.saturating-sub-least.ensures, c.from.ensures) in
-    let high : c.saturating-add-greatest.result ≡ m + d = omega (arith, c.saturating-add-greatest.ensures, c.from-2.ensures) in
-    let near : state_of c.close-far.new.self ≡ nearer (replied (place_of (standing_of v c.args.nonce.now s.book)) v (m + d) s) =
-    c.close-far.ensures.value ∙ ap nearer (c.take-reply-asked.ensures.value ∙ ap (λ p. replied p v c.saturating-add-greatest.result s) (sym place) ∙ ap (λ t. replied (place_of (standing_of v c.args.nonce.now s.book)) v t s) high) in
+    let low : c.saturating_sub-least.result ≡ m - d = omega (arith, c.saturating_sub-least.ensures, c.from.ensures) in
+    let high : c.saturating_add-greatest.result ≡ m + d = omega (arith, c.saturating_add-greatest.ensures, c.from-2.ensures) in
+    let near : state_of c.close_far.new.self ≡ nearer (replied (place_of (standing_of v c.args.nonce.now s.book)) v (m + d) s) =
+    c.close_far.ensures.value ∙ ap nearer (c.take_reply-asked.ensures.value ∙ ap (λ p. replied p v c.saturating_add-greatest.result s) (sym place) ∙ ap (λ t. replied (place_of (standing_of v c.args.nonce.now s.book)) v t s) high) in
     let makes = c.make-made.ensures.makes in
-    let m-low = subst (λ t. Makes (state_of c.close-far.new.self) (momented false (Some (AtLeast v t)) (state_of c.close-far.new.self)) c.make-made.result (state_of c.make-made.new.self) (runs_of c.make-made.new.self)) low makes in
-    let heard : Heard = record { made = c.make-made.result; asked = c.take-reply-asked.result; least = c.saturating-sub-least.result; greatest = c.saturating-add-greatest.result } in
+    let m-low = subst (λ t. Makes (state_of c.close_far.new.self) (momented false (Some (AtLeast v t)) (state_of c.close_far.new.self)) c.make-made.result (state_of c.make-made.new.self) (runs_of c.make-made.new.self)) low makes in
+    let heard : Heard = record { made = c.make-made.result; asked = c.take_reply-asked.result; least = c.saturating_sub-least.result; greatest = c.saturating_add-greatest.result } in
     let all : AcceptsNow v c.args.nonce.now m d s heard (state_of c.make-made.new.self) (runs_of c.make-made.new.self) = record {
       none = told.0;
-      asked = c.take-reply-asked.ensures.asked ∙ ap (λ p. (taken_for p s).count) (sym place);
+      asked = c.take_reply-asked.ensures.asked ∙ ap (λ p. (taken_for p s).count) (sym place);
       least = low;
       greatest = high;
       makes = subst (λ t. Makes t (momented false (Some (AtLeast v (m - d))) t) c.make-made.result (state_of c.make-made.new.self) (runs_of c.make-made.new.self)) near m-low;

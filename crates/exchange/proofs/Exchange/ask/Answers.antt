@@ -1,6 +1,5 @@
-use Rattle.std.proofs.Common.{◌≡◌, ◌-◌, false, cond, not, length, Some, None, Ok, sym, ap, ◌∙◌, subst, ap₂, arith}
+use Rattle.std.proofs.Common.{◌-◌, false, cond, length, Some, None, Ok, sym, ap, ◌∙◌, ap₂, arith}
 use Rattle.std.proofs.lemmas.Bool.{lt-leb}
-use Rattle.requests.specs.Book as book
 use Rattle.wire.specs.declared.refusal.Refusal.TheVariants.{OutOfRange, Full}
 use Rattle.exchange.specs.declared.made.Made.{Made}
 use Rattle.exchange.specs.State.{state_of, runs_of}
@@ -10,12 +9,12 @@ use Rattle.exchange.proofs.Views.{room_left, pending_few}
 use Rattle.exchange.proofs.Following.{asks_on}
 use Rattle.exchange.proofs.Exchange.ask.Goals as goal
 
-pub wait-for-requires : goal.wait-for-requires
-wait-for-requires c =
+pub wait_for-requires : goal.wait_for-requires
+wait_for-requires c =
     let x = c.args.self.now in
-    let left = room_left (state_of x).book.pending (pending_few x.requests.pending) (sym c.if-is-full.ensures.value) in
+    let left = room_left (state_of x).book.pending (pending_few x.requests.pending) (sym c.if-is_full.ensures.value) in
     record {
-      spare = c.moment-forgot.ensures.spare (omega (arith, ap (λ s. length s.book.pending) c.close-far.ensures.value, left));
+      spare = c.moment-forgot.ensures.spare (omega (arith, ap (λ s. length s.book.pending) c.close_far.ensures.value, left));
       wide = c.moment-forgot.ensures.wide;
     }
 
@@ -23,11 +22,11 @@ pub returns : goal.returns
 returns c =
     let x = c.args.self.now in
     let s = state_of x in
-    let near = c.close-far.ensures.value in
-    let made = c.wait-for.ensures.value ∙ ap (waiting c.args.server c.args.nonce) (c.moment-forgot.ensures.value ∙ ap (momented false None) near) in
-    let made-it : Made = record { ticks = c.close-far.new.self.count - c.close-far.new.self.last; forgot = c.moment-forgot.result; lost = c.finish-lost.result } in
+    let near = c.close_far.ensures.value in
+    let made = c.wait_for.ensures.value ∙ ap (waiting c.args.server c.args.nonce) (c.moment-forgot.ensures.value ∙ ap (momented false None) near) in
+    let made-it : Made = record { ticks = c.close_far.new.self.count - c.close_far.new.self.last; forgot = c.moment-forgot.result; lost = c.finish-lost.result } in
     let told : AsksNow c.args.server c.args.nonce s made-it (state_of c.finish-lost.new.self) (runs_of c.finish-lost.new.self) = record {
-      none = ap₂ (λ a b. cond a (Some OutOfRange) (cond b (Some Full) None)) (lt-leb s.servers c.args.server c.if-server-self.false) (sym c.if-is-full.ensures.value);
+      none = ap₂ (λ a b. cond a (Some OutOfRange) (cond b (Some Full) None)) (lt-leb s.servers c.args.server c.if-server-self.false) (sym c.if-is_full.ensures.value);
       makes = record {
         ticks = ap (λ t. t.count - t.last) near;
         forgot = c.moment-forgot.ensures.forgot ∙ ap forgets near;

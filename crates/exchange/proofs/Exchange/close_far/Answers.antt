@@ -1,4 +1,4 @@
-use Rattle.std.proofs.Common.{◌≡◌, not, ap, arith}
+use Rattle.std.proofs.Common.{not, ap, arith}
 use Rattle.requests.specs.declared.request.Over.TheVariants.{Far}
 use Rattle.requests.specs.Request.{over, reach_of}
 use Rattle.requests.specs.Pending.{waiting_in}
@@ -7,11 +7,17 @@ use Rattle.exchange.specs.Steps.{with_book}
 use Rattle.exchange.proofs.Views.{reach_kept, reach_near}
 use Rattle.exchange.proofs.Exchange.close_far.Goals as goal
 
-pub invariant-of-self : goal.invariant-of-self
-invariant-of-self c =
+pub invariant_of-self : goal.invariant_of-self
+invariant_of-self c =
     let x = c.args.self.now in
     let ps = waiting_in x.requests.pending in
-    (x.few, (x.order, (omega (arith, ap (λ b. reach_of b.pending) c.close.ensures.value, reach_kept (λ q. not (over Far q)) ps, x.reach), (x.roomy, (x.within, tt)))))
+    record {
+      few = x.few;
+      order = x.order;
+      reach = omega (arith, ap (λ b. reach_of b.pending) c.close.ensures.value, reach_kept (λ q. not (over Far q)) ps, x.reach);
+      roomy = x.roomy;
+      within = x.within;
+    }
 
 pub returns : goal.returns
 returns c =

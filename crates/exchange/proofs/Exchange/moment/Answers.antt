@@ -1,19 +1,18 @@
-use Rattle.std.proofs.Common.{◌≡◌, length, refl, ap, ◌∙◌, arith}
+use Rattle.std.proofs.Common.{length, ap, ◌∙◌, arith}
 use Rattle.requests.specs.Request.{reach_of}
 use Rattle.requests.specs.Pending.{waiting_in}
 use Rattle.requests.proofs.Known.{reach_later}
 use Rattle.window.specs.View.{view_of}
-use Rattle.window.specs.Steps.{settled}
 use Rattle.exchange.proofs.Views.{settled_lag, settled_choices, roomy_lag, roomy_choices}
 use Rattle.exchange.proofs.Exchange.moment.Goals as goal
 
-pub invariant-of-self : goal.invariant-of-self
-invariant-of-self c =
+pub invariant_of-self : goal.invariant_of-self
+invariant_of-self c =
     let x = c.args.self.now in
     let ps = waiting_in x.requests.pending in
     let later = ap (λ b. reach_of b.pending) c.tick.ensures.value in
     let one = c.settle.ensures.value in
-    let two = c.make-room-forgot.ensures.value in
+    let two = c.make_room-forgot.ensures.value in
     let three = c.make.ensures.value in
     let v = view_of c.settle.new.self in
     let lag = ap (λ w. w.lag) three in
@@ -22,4 +21,10 @@ invariant-of-self c =
     let many = ap (λ w. length w.choices) three in
     let many-two = ap (λ w. length w.choices) two ∙ ap length (roomy_choices x.count v) in
     let many-one = ap (λ w. length w.choices) one ∙ ap length (settled_choices c.reach-reach.result (view_of x.window)) in
-    (x.few, (omega arith, (omega (arith, later, reach_later ps, c.reach-reach.ensures.value, lag, lag-two, lag-one), (omega (arith, many, many-two, many-one, x.roomy, x.window.choices.ok.0, c.make.new.self.choices.ok.0), (x.within, tt)))))
+    record {
+      few = x.few;
+      order = omega arith;
+      reach = omega (arith, later, reach_later ps, c.reach-reach.ensures.value, lag, lag-two, lag-one);
+      roomy = omega (arith, many, many-two, many-one, x.roomy, x.window.choices.ok.0, c.make.new.self.choices.ok.0);
+      within = x.within;
+    }

@@ -1,4 +1,4 @@
-use Rattle.std.proofs.Common.{◌≡◌, length, ap, ◌∙◌, arith}
+use Rattle.std.proofs.Common.{length, ap, arith}
 use Rattle.requests.specs.Book.{book_of, oldest_like}
 use Rattle.requests.specs.Request.{reach_of}
 use Rattle.requests.proofs.Reach.{reach_each}
@@ -11,10 +11,16 @@ answer-requires c =
     let ps = (book_of x.requests).pending in
     omega (arith, ap (λ q. q.since) c.answer-request.ensures.taken, reach_each ps (oldest_like c.args.place ps) c.answer-request.ensures.within, x.reach)
 
-pub invariant-of-self : goal.invariant-of-self
-invariant-of-self c =
+pub invariant_of-self : goal.invariant_of-self
+invariant_of-self c =
     let x = c.args.self.now in
     let far = ap (λ b. reach_of b.pending) c.answer-request.ensures.value in
     let lag = ap (λ v. v.lag) c.answer.ensures.value in
     let many = ap (λ v. length v.choices) c.answer.ensures.value in
-    (x.few, (x.order, (omega (arith, far, reach_answered c.args.place (book_of x.requests), lag, x.reach), (omega (arith, many, x.roomy, x.window.choices.ok.0, c.answer.new.self.choices.ok.0), (x.within, tt)))))
+    record {
+      few = x.few;
+      order = x.order;
+      reach = omega (arith, far, reach_answered c.args.place (book_of x.requests), lag, x.reach);
+      roomy = omega (arith, many, x.roomy, x.window.choices.ok.0, c.answer.new.self.choices.ok.0);
+      within = x.within;
+    }
