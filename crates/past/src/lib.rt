@@ -88,7 +88,8 @@ pub fn said_of(
     moments: &[Moment],
     place: usize,
 ) -> Option<(u64, u64)>
-    requires { (length base.now ≡ 2 * length choices.now) × (place < length moments.now) }
+    requires paired { length base.now ≡ 2 * length choices.now }
+    requires there { place < length moments.now }
     ensures value { result ≡ said_by (λ c. span_then drift.millionths c (take (place + 1) moments.now) (drop (place + 1) moments.now)) None choices.now base.now }
     ensures each { EachExact drift.millionths base.now choices.now moments.now place }
     ensures exact { SaidExact drift.millionths base.now choices.now moments.now place result }

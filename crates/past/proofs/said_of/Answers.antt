@@ -23,7 +23,7 @@ loop-k-preserved c =
     ∙ ap₂ (λ a b. span_then d choice a b c.read.result) c.split_at.ensures.front c.split_at.ensures.back
     ∙ ap (f choice) c.read.ensures.value in
     ap (λ s. said_by f s (drop (k + 1) cs) (drop (2 * (k + 1)) base)) (c.widened-said.ensures.value ∙ ap (wider c.loop-k.said) span)
-    ∙ sym (said_more f c.loop-k.said k cs base (omega arith) (omega (arith, c.requires)))
+    ∙ sym (said_more f c.loop-k.said k cs base (omega arith) (omega arith))
     ∙ c.loop-k.invariant
 
 pub returns : goal.returns
@@ -37,7 +37,7 @@ returns c =
     record {
       value = is;
       each = each_exact d base cs kept place;
-      exact = said_exact d base cs kept place c.loop-k.said (omega (arith, c.requires)) is;
+      exact = said_exact d base cs kept place c.loop-k.said (omega arith) is;
       known = known_past_exact;
       whole = past_exact;
       never_widens = past_never_widens;
