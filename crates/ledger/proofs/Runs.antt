@@ -1,5 +1,5 @@
 -- A ledger's steps, as events of a run.
-use Rattle.std.proofs.Common.{◌≡◌, ℕ, suc, ◌+◌, ◌<◌, cond, List, [], ◌∷◌, ◌++◌, length, get_or, take, sym, refl, ap, ◌∙◌}
+use Rattle.std.proofs.Common.{◌≡◌, ℕ, suc, ◌+◌, ◌<◌, cond, List, [], ◌∷◌, ◌++◌, length, get_or, take, sym, refl, ap, subst, ◌∙◌}
 use Rattle.std.proofs.lemmas.List.{take_more}
 use Rattle.span.specs.declared.Span.{Span}
 use Rattle.std.proofs.lemmas.Bool.{le-leb}
@@ -30,9 +30,12 @@ pub begins : (n f latest : ℕ) (cs row : List ℕ) → AllChosen n f cs → row
 unfolding moments through
 begins n f latest cs row all e r s q l t = record { choices = all r s q l; spans = e ∙ ap (λ x. row_of (λ c. upto x) cs) (sym t) }
 
-pub passes : (low high : ℕ) (cs row after : List ℕ) → RowMoves low high row after → Passes low high cs row after
+passes : (low high : ℕ) (cs row after : List ℕ) → RowMoves low high row after → Passes low high cs row after
 unfolding moments
 passes low high cs row after moves r es n s h = record { choices = h.choices; spans = moves r (moments es) cs n s h.spans }
+
+pub passes_on : (low high : ℕ) (cs row one after : List ℕ) → RowMoves low high row one → after ≡ one → Passes low high cs row after
+passes_on low high cs row one after moves same = subst (Passes low high cs row) (sym same) (passes low high cs row one moves)
 
 pub hears : (low high v lo hi : ℕ) (cs row one two three after : List ℕ) → RowMoves low high row one → RowCuts cs (AtMost v hi) one two → RowMoves low high two three → RowCuts cs (AtLeast v lo) three after → Hears low high v lo hi cs row after
 unfolding moments put
