@@ -164,7 +164,7 @@ module _ (s : State) (rs : List Run) (reach : reach_of s.book.pending ≤ s.wind
   shows_on count (Ok (Some m)) t us c = λ r es h.
       let q = clocked count s in
       let ps = s.book.pending in
-      let now-or-later : s.count ≤ count = grind (arith, nat_tests) in
+      let now_or_later : s.count ≤ count = grind (arith, nat_tests) in
       let few = reach_kept (λ x. not (over (Age count) x)) ps in
       let near = ltb-false 64 (reach_of q.book.pending) c.on in
       let e = happens (count - s.last) Shows in

@@ -86,11 +86,11 @@ pub goes_on : (r : Rules) (es : List Event) (ms : List model.Moment) (begun : â„
 goes_on r es ms begun w ps last h e m count a t c k d b l n =
     let reach = reach_of ps in
     let one = settled reach w in
-    let lag-one = settled_lag reach w in
+    let lag_one = settled_lag reach w in
     let long : one.lag â‰¤ length one.kept = omega (arith, ap length (settled_kept reach w)) in
     let near : one.lag < 1024 = omega arith in
-    let lag-two = roomy_lag count one in
-    let long-two = roomy_long count one long near in
+    let lag_two = roomy_lag count one in
+    let long_two = roomy_long count one long near in
     holds_made r es ms begun (roomy count one) ps last
     (holds_roomy r es ms begun one ps last count (holds_settled r es ms begun w ps last h reach b l) long near (omega arith))
     e m count a t c k d (omega arith) (omega arith)

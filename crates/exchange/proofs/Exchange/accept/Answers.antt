@@ -31,13 +31,13 @@ returns c =
     let near : state_of c.close_far.new.self ≡ nearer (replied (place_of (standing_of v c.args.nonce.now s.book)) v (m + d) s) =
     c.close_far.ensures.value ∙ ap nearer (c.take_reply-asked.ensures.value ∙ ap (λ p. replied p v c.saturating_add-greatest.result s) (sym place) ∙ ap (λ t. replied (place_of (standing_of v c.args.nonce.now s.book)) v t s) high) in
     let makes = c.make-made.ensures.makes in
-    let m-low = subst (λ t. Makes (state_of c.close_far.new.self) (momented false (Some (AtLeast v t)) (state_of c.close_far.new.self)) c.make-made.result (state_of c.make-made.new.self) (runs_of c.make-made.new.self)) low makes in
+    let m_low = subst (λ t. Makes (state_of c.close_far.new.self) (momented false (Some (AtLeast v t)) (state_of c.close_far.new.self)) c.make-made.result (state_of c.make-made.new.self) (runs_of c.make-made.new.self)) low makes in
     let heard : Heard = record { made = c.make-made.result; asked = c.take_reply-asked.result; least = c.saturating_sub-least.result; greatest = c.saturating_add-greatest.result } in
     let all : AcceptsNow v c.args.nonce.now m d s heard (state_of c.make-made.new.self) (runs_of c.make-made.new.self) = record {
       none = told.0;
       asked = c.take_reply-asked.ensures.asked ∙ ap (λ p. (taken_for p s).count) (sym place);
       least = low;
       greatest = high;
-      makes = subst (λ t. Makes t (momented false (Some (AtLeast v (m - d))) t) c.make-made.result (state_of c.make-made.new.self) (runs_of c.make-made.new.self)) near m-low;
+      makes = subst (λ t. Makes t (momented false (Some (AtLeast v (m - d))) t) c.make-made.result (state_of c.make-made.new.self) (runs_of c.make-made.new.self)) near m_low;
     } in
     record { accepts = all; on = accepts_on (state_of x) (runs_of x) x.reach x.window.reach x.order v c.args.nonce.now m d (Ok heard) (state_of c.make-made.new.self) (runs_of c.make-made.new.self) all }

@@ -24,8 +24,8 @@ returns c =
     let s = state_of x in
     let near = c.close_far.ensures.value in
     let made = c.wait_for.ensures.value ∙ ap (waiting c.args.server c.args.nonce) (c.moment-forgot.ensures.value ∙ ap (momented false None) near) in
-    let made-it : Made = record { ticks = c.close_far.new.self.count - c.close_far.new.self.last; forgot = c.moment-forgot.result; lost = c.finish-lost.result } in
-    let told : AsksNow c.args.server c.args.nonce s made-it (state_of c.finish-lost.new.self) (runs_of c.finish-lost.new.self) = record {
+    let made_it : Made = record { ticks = c.close_far.new.self.count - c.close_far.new.self.last; forgot = c.moment-forgot.result; lost = c.finish-lost.result } in
+    let told : AsksNow c.args.server c.args.nonce s made_it (state_of c.finish-lost.new.self) (runs_of c.finish-lost.new.self) = record {
       none = ap₂ (λ a b. cond a (Some OutOfRange) (cond b (Some Full) None)) (lt-leb s.servers c.args.server c.if-server-self.false) (sym c.if-is_full.ensures.value);
       makes = record {
         ticks = ap (λ t. t.count - t.last) near;
@@ -35,4 +35,4 @@ returns c =
         says = c.finish-lost.ensures.says;
       };
     } in
-    record { asks = told; on = asks_on (state_of x) (runs_of x) x.reach x.window.reach x.order c.args.server c.args.nonce (Ok made-it) (state_of c.finish-lost.new.self) (runs_of c.finish-lost.new.self) told }
+    record { asks = told; on = asks_on (state_of x) (runs_of x) x.reach x.window.reach x.order c.args.server c.args.nonce (Ok made_it) (state_of c.finish-lost.new.self) (runs_of c.finish-lost.new.self) told }

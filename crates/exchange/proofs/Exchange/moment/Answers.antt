@@ -16,15 +16,15 @@ invariant_of-self c =
     let three = c.make.ensures.value in
     let v = view_of c.settle.new.self in
     let lag = ap (λ w. w.lag) three in
-    let lag-two = ap (λ w. w.lag) two ∙ roomy_lag x.count v in
-    let lag-one = ap (λ w. w.lag) one ∙ settled_lag c.reach-reach.result (view_of x.window) in
+    let lag_two = ap (λ w. w.lag) two ∙ roomy_lag x.count v in
+    let lag_one = ap (λ w. w.lag) one ∙ settled_lag c.reach-reach.result (view_of x.window) in
     let many = ap (λ w. length w.choices) three in
-    let many-two = ap (λ w. length w.choices) two ∙ ap length (roomy_choices x.count v) in
-    let many-one = ap (λ w. length w.choices) one ∙ ap length (settled_choices c.reach-reach.result (view_of x.window)) in
+    let many_two = ap (λ w. length w.choices) two ∙ ap length (roomy_choices x.count v) in
+    let many_one = ap (λ w. length w.choices) one ∙ ap length (settled_choices c.reach-reach.result (view_of x.window)) in
     record {
       few = x.few;
       order = omega arith;
-      reach = omega (arith, later, reach_later ps, c.reach-reach.ensures.value, lag, lag-two, lag-one);
-      roomy = omega (arith, many, many-two, many-one, x.roomy, x.window.choices.ok.0, c.make.new.self.choices.ok.0);
+      reach = omega (arith, later, reach_later ps, c.reach-reach.ensures.value, lag, lag_two, lag_one);
+      roomy = omega (arith, many, many_two, many_one, x.roomy, x.window.choices.ok.0, c.make.new.self.choices.ok.0);
       within = x.within;
     }
