@@ -39,13 +39,18 @@ pub digits_end : (text : List ℕ) (i : ℕ) → length text ≤ i → all_digit
 unfolding all_digits
 digits_end text i h = at_drop_all all_digits text i h
 
-pub digit_below : (text : List ℕ) (i : ℕ) → all_digits text ≡ true → i < length text → digit_of (get_or text i 0) < 16
+digit_below : (text : List ℕ) (i : ℕ) → all_digits text ≡ true → i < length text → digit_of (get_or text i 0) < 16
 unfolding all_digits
 digit_below [] i h l = absurd (omega arith)
 digit_below (c ∷ cs) zero h l = let p = (both_true _ _ h).0 in let q : leb (digit_of c) 15 ≡ true = p in below (digit_of c) q where
   below : (d : ℕ) → leb d 15 ≡ true → d < 16
   below d e = grind (arith, nat_tests)
 digit_below (c ∷ cs) (suc i) h l = digit_below cs i (both_true _ _ h).1 (omega arith)
+
+-- both digits of a pair
+pub pair_below : (text : List ℕ) (i : ℕ) → all_digits text ≡ true → i < length text / 2
+    → (digit_of (get_or text (2 * i) 0) < 16) × (digit_of (get_or text (2 * i + 1) 0) < 16)
+pair_below text i h l = (digit_below text (2 * i) h (omega arith), digit_below text (2 * i + 1) h (omega arith))
 
 -- pairs of digits
 pub length_pairs : (text : List ℕ) → length (pairs text) ≡ length text / 2

@@ -1,18 +1,17 @@
 use Rattle.std.proofs.Common.{◌≡◌, ◌+◌, ◌*◌, ◌/◌, ◌++◌, length, get_or, drop, sym, ap, ◌∙◌, arith}
 use Rattle.std.proofs.lemmas.List.{take_all}
 use Rattle.hextext.specs.Hex.{digit_of, pairs}
-use Rattle.hextext.proofs.Texts.{digit_below, length_pairs, pair_at, one_more}
+use Rattle.hextext.proofs.Texts.{length_pairs, pair_at, pair_below, one_more}
 use Rattle.hextext.proofs.hex.read_pairs.Goals as goal
 
 pub overflow_mul-out : goal.overflow_mul-out
 overflow_mul-out c =
-    let small = digit_below c.args.text.now (2 * c.loop-i.i) c.requires.digits (omega arith) in
+    let below = pair_below c.args.text.now c.loop-i.i c.requires.digits (omega arith) in
     omega (arith, c.digit.ensures.value)
 
 pub overflow_add-out : goal.overflow_add-out
 overflow_add-out c =
-    let high = digit_below c.args.text.now (2 * c.loop-i.i) c.requires.digits (omega arith) in
-    let low = digit_below c.args.text.now (2 * c.loop-i.i + 1) c.requires.digits (omega arith) in
+    let below = pair_below c.args.text.now c.loop-i.i c.requires.digits (omega arith) in
     omega (arith, c.digit.ensures.value, c.digit-in-loop-i.ensures.value)
 
 pub loop-i-preserved : goal.loop-i-preserved
