@@ -1,5 +1,5 @@
 // Who is there: how many servers, how many of them may be faulty, and which have lied so far.
-ghost use Rattle.std.specs.Prelude.{◌≡◌, ◌+◌, ◌<◌, ◌≤◌, Bool, true, false, ◌&&◌, ◌||◌, length, get_or, replicate, if◌then◌else◌, MatchOption, nat_le, nat_lt, slice_index_or, slice_set};
+ghost use Rattle.std.specs.Prelude.{◌≡◌, ◌+◌, ◌<◌, ◌≤◌, Bool, true, false, ◌&&◌, ◌||◌, length, replicate, if◌then◌else◌, MatchOption, nat_le, nat_lt, slice_index_or, slice_set};
 
 #[derive(Drop)]
 pub(crate) struct Cast {
@@ -68,7 +68,7 @@ impl Cast {
     // Notes that a server lied, if it is there and may.
     pub(crate) fn lie(&mut self, server: u64)
         ensures same { (self.new.servers ≡ self.old.servers) × (self.new.faulty ≡ self.old.faulty) }
-        ensures lied { server < self.old.servers → (slice_index_or self.old.lied server false || nat_lt self.old.liars self.old.faulty) ≡ true → (self.new.lied ≡ slice_set self.old.lied server true) × (self.new.liars ≡ self.old.liars + (if get_or self.old.lied server false then 0 else 1)) }
+        ensures lied { server < self.old.servers → (slice_index_or self.old.lied server false || nat_lt self.old.liars self.old.faulty) ≡ true → (self.new.lied ≡ slice_set self.old.lied server true) × (self.new.liars ≡ self.old.liars + (if slice_index_or self.old.lied server false then 0 else 1)) }
     {
         if self.has_lied(server) {
             return;

@@ -26,7 +26,7 @@ box_of m = record { state = state_of m.exchange; runs = runs_of m.exchange; hand
 
 -- the hand after a moment: it runs freely where no world was left, and steps at a reply and otherwise
 abbrev pub turned : Made → Bool → List Run → Hand → Hand
-turned m isHeard runs h = cond m.lost (lost m.ticks h) (cond isHeard (heard runs m.ticks h) (passed runs m.ticks h))
+turned m is_heard runs h = cond m.lost (lost m.ticks h) (cond is_heard (heard runs m.ticks h) (passed runs m.ticks h))
 
 -- A count: what the reckoning does, what is answered, and how the hand goes on.
 abbrev pub show_answer : Result (Option Made) Refusal → Answer
