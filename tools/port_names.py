@@ -1,7 +1,7 @@
 #!/usr/bin/env python3
 """Spells this repository's own definitions and lemmas in snake case, as today's Rattle does: `isIn` becomes `is_in`, `of-ends` becomes `of_ends`.
 
-usage: tools/port_names.py        once, at the top of the repository, after /opt/rattle/port/port.py
+usage: tools/port_names.py        once, at the top of the repository, after the script of the toolchain that respells a repository of an older Rattle
 
 Types and modules keep their capitals, goals and the other names that Rattle makes keep their dashes, and so do names of its library. Rust
 functions, exported names, strings, inputs and outputs are left alone. Where two names would fall together it says so and changes nothing.
