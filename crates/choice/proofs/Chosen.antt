@@ -1,7 +1,9 @@
 -- The list of choices with just so many faulty servers: it has all of them and no others, and at most 252.
-use Rattle.std.proofs.Common.{◌≡◌, ℕ, zero, suc, ◌+◌, ◌^◌, ◌<◌, ◌≤◌, Bool, true, false, cond, ◌&&◌, eqb, leb, ◌⊎◌, List, [], ◌∷◌, ◌++◌, length, get_or, sym, refl, ap, ◌∙◌, subst, ap₂, ⊎_elim, append-nil, add-zero, add-suc, pow-suc, zero-add, arith, length-append}
+use Rattle.std.proofs.Common.{◌≡◌, ℕ, zero, suc, ◌+◌, ◌^◌, ◌<◌, ◌≤◌, Bool, true, false, cond, ◌&&◌, eqb, leb, ◌⊎◌, List, [], ◌∷◌, ◌++◌, length, get_or, sym, refl, ap, ◌∙◌, subst, ap₂, ⊎_elim, append-nil, add-zero, add-suc, add-one, pow-suc, zero-add, filter, arith, length-append}
+use Rattle.std.specs.List.{range_with_len}
+use Rattle.std.proofs.lemmas.List.FromFn.{filter_of_map_range_with_len_more}
 use lib.Count.{ones, ones_cat}
-use Rattle.std.proofs.lemmas.List.{get_or_append_left, get_or_push, length_push}
+use Rattle.std.proofs.lemmas.List.{map-id, get_or_append_left, get_or_push, length_push}
 use Rattle.std.proofs.lemmas.Bool.{eq-eqb, ne_eqb, cases_eq, cases_lt, and_parts, leb-true}
 use Rattle.std.proofs.lemmas.Bool.Decides.{nat_tests}
 use Rattle.span.specs.World.{Rules}
@@ -166,3 +168,16 @@ pub chosen_few : (n f : ℕ) → n ≤ 10 → f < n → length (chosen f (2 ^ n)
 chosen_few n f h l =
     let e = chosen_among f (2 ^ n) ∙ among_choose n f in
     omega (arith, e, small_at n 10 f (all_at 10 n checked h) (omega arith))
+
+-- they are the numbers below the bound that have just so many bits
+pub chosen_is : (f m : ℕ) → filter (λ c. eqb (ones c) f) (range_with_len 0 m) ≡ chosen f m
+unfolding chosen
+chosen_is f zero = refl
+chosen_is f (suc m) =
+    let few : ℕ → Bool = λ c. eqb (ones c) f in
+    let one_more = filter_of_map_range_with_len_more few (λ x. x) 0 m m (zero-add m) in
+    ap (λ n. filter few (range_with_len 0 n)) (sym (add-one m))
+    ∙ ap (filter few) (sym (map-id (range_with_len 0 (m + 1))))
+    ∙ one_more
+    ∙ ap (λ l. filter few l ++ cond (few m) (m ∷ []) []) (map-id (range_with_len 0 m))
+    ∙ ap (λ l. l ++ cond (few m) (m ∷ []) []) (chosen_is f m)

@@ -1,71 +1,38 @@
--- Gathering spans and joining runs, step by step; and what joined runs hold.
-use Rattle.std.proofs.Common.{◌≡◌, ℕ, suc, ◌+◌, ◌-◌, ◌*◌, ◌<◌, ◌≤◌, max, Bool, true, false, cond, ◌&&◌, ◌||◌, leb, List, [], ◌∷◌, ◌++◌, length, get_or, take, drop, set, Some, sym, refl, ap, ◌∙◌, subst, ap₂, ⊎_elim, append_assoc, append-nil, arith, length-drop}
-use Rattle.std.proofs.lemmas.List.{drop_more, drop_all, take_more_set, drop-set-lt, at_drop_more}
-use Rattle.std.proofs.lemmas.Bool.{le-leb, lt-leb, leb-true, leb-false, both_ways, and_parts, or_cases, or_left, or_right}
+-- Gathering spans and joining runs; and what joined runs hold.
+use Rattle.std.proofs.Common.{◌≡◌, ℕ, suc, ◌+◌, ◌-◌, ◌<◌, ◌≤◌, max, Bool, true, false, cond, ◌&&◌, ◌||◌, leb, List, [], ◌∷◌, filter, map, length, get_or, Some, None, Option, ◌==◌, MatchBool, sym, refl, ap, ◌∙◌, subst, ap₂, ⊎_elim, arith}
+use Rattle.std.specs.List.Retain.{DedupsFrom, IsDeduped}
+use Rattle.std.proofs.lemmas.Bool.{ne_eqb, leb-true, leb-false, both_ways, and_parts, or_cases, or_left, or_right}
 use Rattle.std.proofs.lemmas.Bool.Decides.{nat_tests}
 use Rattle.span.specs.declared.Span.TheVariants.{Between, Empty}
 use Rattle.span.specs.Span.{is_in}
 use Rattle.choice.specs.Row.{any_span}
+use Rattle.choice.specs.declared.case.Case.{Case}
 use Rattle.choice.specs.declared.runs.Run.{Run}
-use Rattle.choice.specs.Runs.{in_run, in_runs, Ordered, Apart, runs_in, joined_to, joined, Bounds}
+use Rattle.choice.specs.Runs.{in_run, in_runs, is_beside, joined_to, joined, run_in, runs_in, wider, Apart, Bounds, bounds_of, Ordered}
 
 abbrev pub none : Run
 none = record { lo = 0; hi = 0 }
 
-pair_at : (k : ℕ) (row : List ℕ) → 2 * k + 1 < length row → drop (2 * k) row ≡ get_or row (2 * k) 0 ∷ (get_or row (2 * k + 1) 0 ∷ drop (2 * (k + 1)) row)
-pair_at k row h =
-    drop_more row (2 * k) 0 (omega arith)
-    ∙ ap (λ x. get_or row (2 * k) 0 ∷ x) (drop_more row (2 * k + 1) 0 h ∙ ap (λ n. get_or row (2 * k + 1) 0 ∷ drop n row) (omega arith))
+-- Runs that are joined one after another by a relation that takes the next one in exactly if it overlaps the last or lies beside it.
+module _ {S : Type 0} (R : S → Run → Run → Bool → S → Run → Run → Type 0) (f : (s : S) (next run : Run) (b : Bool) (t : S) (next' run' : Run) → R s next run b t next' run' → (b ≡ is_beside run next) × (next' ≡ next) × (run' ≡ cond (is_beside run next) (wider run next) run)) where
+  chosen : (a b : Bool) (P Q : Type 0) (ys us vs : List Run) → b ≡ a → (a ≡ true → P → ys ≡ us) → (a ≡ false → Q → ys ≡ vs) → MatchBool b P Q → ys ≡ cond a us vs
+  chosen true b P Q ys us vs e p q w = p refl (subst (λ b. MatchBool b P Q) e w)
+  chosen false b P Q ys us vs e p q w = q refl (subst (λ b. MatchBool b P Q) e w)
 
-pub gather_put : (k n : ℕ) (row : List ℕ) (room : List Run) → 2 * k + 1 < length row → n < length room → get_or row (2 * k) 0 ≤ get_or row (2 * k + 1) 0 → take (n + 1) (set room n (record { lo = get_or row (2 * k) 0; hi = get_or row (2 * k + 1) 0 })) ++ runs_in (drop (2 * (k + 1)) row) ≡ take n room ++ runs_in (drop (2 * k) row)
-unfolding runs_in
-gather_put k n row room h l o =
-    let lo = get_or row (2 * k) 0 in
-    let hi = get_or row (2 * k + 1) 0 in
-    let r : Run = record { lo = lo; hi = hi } in
-    let rest = runs_in (drop (2 * (k + 1)) row) in
-    ap (λ x. x ++ rest) (take_more_set room n r l)
-    ∙ append_assoc (take n room) (r ∷ []) rest
-    ∙ ap (λ x. take n room ++ x) (sym (ap runs_in (pair_at k row h) ∙ ap (λ b. cond b (r ∷ rest) rest) (le-leb lo hi o)))
+  joins_from : (s : S) (run : Run) (rs ys : List Run) → DedupsFrom R s run rs ys → ys ≡ joined_to run rs
+  unfolding joined_to
+  joins_from s run [] ys h = h
+  joins_from s run (next ∷ rs) ys h =
+      let said = f s next run h.0 h.1 h.2 h.3 h.4 in
+      chosen (is_beside run next) h.0 _ _ ys (joined_to (wider run next) rs) (run ∷ joined_to next rs) said.0
+      (λ b p. joins_from h.1 h.3 rs ys p ∙ ap (λ w. joined_to w rs) (said.2 ∙ ap (λ b. cond b (wider run next) run) b))
+      (λ b q. q.2 ∙ ap₂ (λ w l. w ∷ l) (said.2 ∙ ap (λ b. cond b (wider run next) run) b) (joins_from h.1 h.2 rs q.0 q.1 ∙ ap (λ n. joined_to n rs) said.1))
+      h.5
 
-pub gather_skip : (k : ℕ) (row : List ℕ) → 2 * k + 1 < length row → get_or row (2 * k + 1) 0 < get_or row (2 * k) 0 → runs_in (drop (2 * (k + 1)) row) ≡ runs_in (drop (2 * k) row)
-unfolding runs_in
-gather_skip k row h o =
-    let lo = get_or row (2 * k) 0 in
-    let hi = get_or row (2 * k + 1) 0 in
-    let rest = runs_in (drop (2 * (k + 1)) row) in
-    sym (ap runs_in (pair_at k row h) ∙ ap (λ b. cond b (record { lo = lo; hi = hi } ∷ rest) rest) (lt-leb lo hi o))
-
-pub gather_end : (k n : ℕ) (row : List ℕ) (room : List Run) → length row ≤ 2 * k + 1 → take n room ++ runs_in (drop (2 * k) row) ≡ take n room
-unfolding runs_in
-gather_end k n row room h = ap (λ x. take n room ++ x) (short (drop (2 * k) row) (omega (arith, length-drop (2 * k) row))) ∙ append-nil (take n room) where
-  short : (l : List ℕ) → length l ≤ 1 → runs_in l ≡ []
-  short [] h = refl
-  short (x ∷ []) h = refl
-  short (x ∷ (y ∷ l)) h = absurd (omega arith)
-
-pub join_starts : (rs : List Run) → 0 < length rs → joined_to (get_or rs 0 none) (drop 1 rs) ≡ joined rs
-unfolding joined
-join_starts [] h = absurd (omega arith)
-join_starts (r ∷ rs) h = refl
-
-pub join_closes : (n i : ℕ) (rs : List Run) (wide : Run) → n < i → i < length rs → 1 < (get_or rs i none).lo - wide.hi → take (n + 1) (set rs n wide) ++ joined_to (get_or rs i none) (drop (i + 1) (set rs n wide)) ≡ take n rs ++ joined_to wide (drop i rs)
-unfolding joined_to
-join_closes n i rs wide h l apart =
-    let next = get_or rs i none in
-    ap₂ (λ x y. x ++ joined_to next y) (take_more_set rs n wide (omega arith)) (drop-set-lt (i + 1) rs n wide (omega arith))
-    ∙ append_assoc (take n rs) (wide ∷ []) (joined_to next (drop (i + 1) rs))
-    ∙ ap (λ x. take n rs ++ x) (sym (at_drop_more (joined_to wide) rs i none l ∙ ap (λ b. cond b (joined_to (record { lo = wide.lo; hi = max wide.hi next.hi }) (drop (i + 1) rs)) (wide ∷ joined_to next (drop (i + 1) rs))) (lt-leb (next.lo - wide.hi) 1 apart)))
-
-pub join_grows : (n i : ℕ) (rs : List Run) (wide : Run) → i < length rs → (get_or rs i none).lo - wide.hi ≤ 1 → take n rs ++ joined_to (record { lo = wide.lo; hi = max wide.hi (get_or rs i none).hi }) (drop (i + 1) rs) ≡ take n rs ++ joined_to wide (drop i rs)
-unfolding joined_to
-join_grows n i rs wide l beside =
-    let next = get_or rs i none in
-    ap (λ x. take n rs ++ x) (sym (at_drop_more (joined_to wide) rs i none l ∙ ap (λ b. cond b (joined_to (record { lo = wide.lo; hi = max wide.hi next.hi }) (drop (i + 1) rs)) (wide ∷ joined_to next (drop (i + 1) rs))) (le-leb (next.lo - wide.hi) 1 beside)))
-
-pub join_ends : (n i : ℕ) (rs : List Run) (wide : Run) → n < length rs → length rs ≤ i → take (n + 1) (set rs n wide) ≡ take n rs ++ joined_to wide (drop i rs)
-unfolding joined_to
-join_ends n i rs wide h l = take_more_set rs n wide h ∙ ap (λ x. take n rs ++ x) (sym (ap (joined_to wide) (drop_all i rs l)))
+  pub joins : (s : S) (rs ys : List Run) → IsDeduped R s rs ys → ys ≡ joined rs
+  unfolding joined
+  joins s [] ys h = h.told
+  joins s (r ∷ rs) ys h = joins_from s r rs ys h.told
 
 -- What joined runs hold: just what the runs held, if those were in order.
 abbrev pub LowFrom : ℕ → List Run → Type 0
@@ -86,7 +53,7 @@ two_in_one t r s a b c d = go r.lo r.hi s.lo s.hi a b c d where
   go x y u v a b c d = grind (arith, nat_tests)
 
 pub joined_same : (t : ℕ) (r : Run) (rs : List Run) → r.lo ≤ r.hi → LowFrom r.lo rs → in_runs t (joined_to r rs) ≡ (in_run t r || in_runs t rs)
-unfolding joined_to in_runs
+unfolding joined_to
 joined_same t r [] o h = refl
 joined_same t r (s ∷ ss) o h = go (leb (s.lo - r.hi) 1) refl (joined_same t (record { lo = r.lo; hi = max r.hi s.hi }) ss (omega arith) (lower s.lo r.lo ss h.0 h.2)) (joined_same t s ss h.1 h.2) where
   go : (b : Bool) → leb (s.lo - r.hi) 1 ≡ b → in_runs t (joined_to (record { lo = r.lo; hi = max r.hi s.hi }) ss) ≡ (in_run t (record { lo = r.lo; hi = max r.hi s.hi }) || in_runs t ss) → in_runs t (joined_to s ss) ≡ (in_run t s || in_runs t ss) → in_runs t (cond b (joined_to (record { lo = r.lo; hi = max r.hi s.hi }) ss) (r ∷ joined_to s ss)) ≡ (in_run t r || (in_run t s || in_runs t ss))
@@ -102,45 +69,29 @@ joined_apart b r (s ∷ ss) l o h = go (leb (s.lo - r.hi) 1) refl (joined_apart 
   go false e one two = (l, o, two (r.hi + 2) (omega (arith, leb-false _ 1 e)))
 
 -- The spans of a row that have times hold what its spans hold.
-pub runs_ordered : (row : List ℕ) → Ordered (runs_in row)
-unfolding runs_in
+abbrev has_run : Case → Bool
+has_run k = leb k.lo k.hi
+
+pub runs_ordered : (row : List Case) → Ordered (runs_in row)
 runs_ordered [] = tt
-runs_ordered (x ∷ []) = tt
-runs_ordered (lo ∷ (hi ∷ rest)) = go (leb lo hi) refl (runs_ordered rest) where
-  go : (b : Bool) → leb lo hi ≡ b → Ordered (runs_in rest) → Ordered (cond b (record { lo = lo; hi = hi } ∷ runs_in rest) (runs_in rest))
-  go true e h = (leb-true lo hi e, h)
+runs_ordered (k ∷ row) = go (has_run k) refl (runs_ordered row) where
+  go : (b : Bool) → has_run k ≡ b → Ordered (runs_in row) → Ordered (map run_in (cond b (k ∷ filter has_run row) (filter has_run row)))
+  go true e h = (leb-true k.lo k.hi e, h)
   go false e h = h
 
-pub runs_any : (t : ℕ) (row : List ℕ) → in_runs t (runs_in row) ≡ any_span (is_in t) row
-unfolding runs_in any_span in_runs
+pub runs_any : (t : ℕ) (row : List Case) → in_runs t (runs_in row) ≡ any_span (is_in t) row
 runs_any t [] = refl
-runs_any t (x ∷ []) = refl
-runs_any t (lo ∷ (hi ∷ rest)) = go (leb lo hi) (runs_any t rest) where
-  go : (b : Bool) → in_runs t (runs_in rest) ≡ any_span (is_in t) rest → in_runs t (cond b (record { lo = lo; hi = hi } ∷ runs_in rest) (runs_in rest)) ≡ (is_in t (cond b (Between lo hi) Empty) || any_span (is_in t) rest)
-  go true h = ap (λ x. (leb lo t && leb t hi) || x) h
+runs_any t (k ∷ row) = go (has_run k) (runs_any t row) where
+  go : (b : Bool) → in_runs t (runs_in row) ≡ any_span (is_in t) row → in_runs t (map run_in (cond b (k ∷ filter has_run row) (filter has_run row))) ≡ (is_in t (cond b (Between k.lo k.hi) Empty) || any_span (is_in t) row)
+  go true h = ap (λ x. (leb k.lo t && leb t k.hi) || x) h
   go false h = h
 
-pub runs_few : (row : List ℕ) → 2 * length (runs_in row) ≤ length row
-unfolding runs_in
+pub runs_few : (row : List Case) → length (runs_in row) ≤ length row
 runs_few [] = omega arith
-runs_few (x ∷ []) = omega arith
-runs_few (lo ∷ (hi ∷ rest)) = go (leb lo hi) (runs_few rest) where
-  go : (b : Bool) → 2 * length (runs_in rest) ≤ length rest → 2 * length (cond b (record { lo = lo; hi = hi } ∷ runs_in rest) (runs_in rest)) ≤ suc (suc (length rest))
+runs_few (k ∷ row) = go (has_run k) (runs_few row) where
+  go : (b : Bool) → length (runs_in row) ≤ length row → length (map run_in (cond b (k ∷ filter has_run row) (filter has_run row))) ≤ suc (length row)
   go true h = omega arith
   go false h = omega arith
-
--- Looking for a time run by run.
-pub in_hit : (t i : ℕ) (rs : List Run) → i < length rs → in_run t (get_or rs i none) ≡ true → in_runs t (drop i rs) ≡ true
-unfolding in_runs
-in_hit t i rs h e = at_drop_more (in_runs t) rs i none h ∙ ap (λ b. b || in_runs t (drop (i + 1) rs)) e
-
-pub in_miss : (t i : ℕ) (rs : List Run) → i < length rs → in_run t (get_or rs i none) ≡ false → in_runs t (drop i rs) ≡ in_runs t (drop (i + 1) rs)
-unfolding in_runs
-in_miss t i rs h e = at_drop_more (in_runs t) rs i none h ∙ ap (λ b. b || in_runs t (drop (i + 1) rs)) e
-
-pub in_end : (t i : ℕ) (rs : List Run) → length rs ≤ i → in_runs t (drop i rs) ≡ false
-unfolding in_runs
-in_end t i rs h = ap (in_runs t) (drop_all i rs h)
 
 -- The ends of runs that are apart bound all that they hold.
 abbrev last_high : Run → List Run → ℕ
@@ -162,7 +113,7 @@ ends_in r h = ((go r.lo r.hi h).0, (go r.lo r.hi h).1) where
   go x y h = (grind (arith, nat_tests), grind (arith, nat_tests))
 
 last_in : (b : ℕ) (r : Run) (rs : List Run) → Apart b (r ∷ rs) → in_runs (last_high r rs) (r ∷ rs) ≡ true
-unfolding in_runs Apart
+unfolding Apart
 last_in b r [] a = or_left (in_run r.hi r) false (ends_in r a.1).1
 last_in b r (s ∷ ss) a = or_right (in_run (last_high s ss) r) (in_runs (last_high s ss) (s ∷ ss)) (last_in (r.hi + 2) s ss a.2)
 
@@ -170,7 +121,7 @@ in_run_lem : (t : ℕ) (r : Run) → in_run t r ≡ true → (r.lo ≤ t) × (t 
 in_run_lem t r h = let p = and_parts (leb r.lo t) (leb t r.hi) h in (leb-true _ _ p.0, leb-true _ _ p.1)
 
 all_within : (b : ℕ) (r : Run) (rs : List Run) → Apart b (r ∷ rs) → (t : ℕ) → in_runs t (r ∷ rs) ≡ true → (r.lo ≤ t) × (t ≤ last_high r rs)
-unfolding in_runs Apart
+unfolding Apart
 all_within b r [] a t h = ⊎_elim (λ e. in_run_lem t r e) (λ e. absurd (both_ways false refl e)) (or_cases (in_run t r) false h)
 all_within b r (s ∷ ss) a t h =
     ⊎_elim
@@ -179,7 +130,7 @@ all_within b r (s ∷ ss) a t h =
     (or_cases (in_run t r) (in_runs t (s ∷ ss)) h)
 
 pub some_bounds : (rs : List Run) → Apart 0 rs → 0 < length rs → Bounds rs (Some ((get_or rs 0 none).lo, (get_or rs (length rs - 1) none).hi))
-unfolding in_runs Apart
+unfolding Apart
 some_bounds [] a h = absurd (omega arith)
 some_bounds (r ∷ rs) a h =
     let e : (get_or (r ∷ rs) (suc (length rs) - 1) none).hi ≡ last_high r rs = ap (λ i. (get_or (r ∷ rs) i none).hi) (omega arith) ∙ last_is r rs in (
@@ -188,7 +139,10 @@ some_bounds (r ∷ rs) a h =
       λ t k. let w = all_within 0 r rs a t k in (w.0, subst (λ x. t ≤ x) (sym e) w.1),
     )
 
-pub no_bounds : (rs : List Run) → length rs ≡ 0 → (t : ℕ) → in_runs t rs ≡ true → ⊥
-unfolding in_runs
-no_bounds [] h t e = both_ways false refl e
-no_bounds (r ∷ rs) h t e = absurd (omega arith)
+pub bounds_exact : (rs : List Run) (b : Option (ℕ × ℕ)) → b ≡ bounds_of rs → Apart 0 rs → Bounds rs b
+bounds_exact rs b e a = subst (Bounds rs) (sym e) (go rs a) where
+  go : (rs : List Run) → Apart 0 rs → Bounds rs (bounds_of rs)
+  go [] a = λ t h. both_ways false refl h
+  go (r ∷ rs) a =
+      let some : (length (r ∷ rs) == 0) ≡ false = ne_eqb (length (r ∷ rs)) 0 (λ e. omega arith) in
+      subst (λ b. Bounds (r ∷ rs) (cond b None (Some ((get_or (r ∷ rs) 0 none).lo, (get_or (r ∷ rs) (length (r ∷ rs) - 1) none).hi)))) (sym some) (some_bounds (r ∷ rs) a (omega arith))

@@ -21,7 +21,6 @@ abbrev hit : ℕ → Run → ℕ
 hit t r = cond (in_run t r) 1 0
 
 counted : (t : ℕ) (rs : List Run) → in_runs t rs ≡ ltb 0 (sum_by (hit t) rs)
-unfolding in_runs
 counted t [] = refl
 counted t (r ∷ rs) = go (in_run t r) (counted t rs) ∙ ap (ltb 0) (sym (sum_by-cons (hit t) r rs)) where
   go : (b : Bool) → in_runs t rs ≡ ltb 0 (sum_by (hit t) rs) → (b || in_runs t rs) ≡ ltb 0 (cond b 1 0 + sum_by (hit t) rs)
@@ -51,7 +50,7 @@ nexts r (s ∷ ss) o up = (not_below r s (up 0 r (omega arith) (omega arith)), o
 
 -- so that joined they are apart, and hold what was held
 pub joined_sorted : (rs ss : List Run) → Ordered rs → IsPermutation rs ss → Up ss → Apart 0 (joined ss) × ((t : ℕ) → in_runs t (joined ss) ≡ in_runs t rs)
-unfolding joined Apart in_runs
+unfolding joined Apart
 joined_sorted rs ss o moved up =
     let each = all_shuffled (λ r. r.lo ≤ r.hi) rs ss moved o in
     (apart ss each up, λ t. same ss each up t ∙ shuffled_same t rs ss moved)

@@ -3,10 +3,9 @@ use Rattle.std.proofs.Common.{refl}
 use lib.Count.{ones}
 use Rattle.span.specs.Model.{moments, put, cut_all, through}
 use Rattle.choice.specs.Choice.{choice_of, chosen}
-use Rattle.choice.specs.Row.{row_of, named_by}
-use Rattle.choice.specs.Runs.{runs_in, joined, joined_to}
+use Rattle.choice.specs.Runs.{joined, joined_to}
 use Rattle.choice.specs.Cases.{placed, sorted, Worked}
 
 pub worked : Worked
-unfolding moments put cut_all through choice_of chosen row_of named_by runs_in joined joined_to placed sorted ones
+unfolding moments put cut_all through choice_of chosen joined joined_to placed sorted ones
 worked = ((refl, refl), ((refl, refl), ((refl, refl), (refl, ((refl, refl), ((refl, refl), ((refl, refl), tt)))))))

@@ -27,7 +27,7 @@ abbrev pub said_runs : Rules → List Event → List Run
 said_runs r es = joined (sorted (runs_in (row_through r (moments es) (choices_of r))))
 
 abbrev pub said_names : Rules → List Event → ℕ
-said_names r es = choice_of (λ v. named_by v (choices_of r) (row_through r (moments es) (choices_of r))) r.servers
+said_names r es = choice_of (λ v. named_by v (row_through r (moments es) (choices_of r))) r.servers
 
 -- A row: a drift and a number of ticks with the least and the most that true time goes on; a span, and the span that it is so many ticks later; or rules and a run, with the runs of times that may be after it and the set of named servers.
 pub data Row : Type 0 where

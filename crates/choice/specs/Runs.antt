@@ -1,7 +1,8 @@
 -- Times as runs: maximal runs of whole numbers, in increasing order, at least one number missing between two.
-use Rattle.std.specs.Prelude.{◌≡◌, ℕ, ◌+◌, ◌-◌, ◌≤◌, max, Bool, true, false, cond, ◌&&◌, ◌||◌, List, [], ◌∷◌, length, Some, None, Decides, Option, ◌==◌, ◌≢◌, nat_le, slice_index_or}
+use Rattle.std.specs.Prelude.{◌≡◌, ℕ, ◌+◌, ◌-◌, ◌≤◌, max, Bool, true, cond, ◌&&◌, List, [], ◌∷◌, filter, length, map, Some, None, Decides, Option, ◌==◌, ◌≢◌, nat_le, slice_index_or}
+use Rattle.std.specs.List.{AllByRecursion, list_any}
 use Rattle.span.specs.World.{Rules, Event, World}
-use Rattle.std.specs.List.{AllByRecursion}
+use Rattle.choice.specs.declared.case.Case.{Case}
 use Rattle.choice.specs.declared.runs.Run.{Run}
 use Rattle.choice.specs.Stands.{Stands}
 
@@ -9,9 +10,8 @@ use Rattle.choice.specs.Stands.{Stands}
 abbrev pub in_run : ℕ → Run → Bool
 in_run t r = nat_le r.lo t && nat_le t r.hi
 
-unfoldable pub in_runs : ℕ → List Run → Bool
-in_runs t [] = false
-in_runs t (r ∷ rs) = in_run t r || in_runs t rs
+abbrev pub in_runs : ℕ → List Run → Bool
+in_runs t rs = list_any (in_run t) rs
 
 -- each run has a time
 abbrev pub Ordered : List Run → Type 0
@@ -23,19 +23,27 @@ Apart b [] = Unit {0}
 Apart b (r ∷ rs) = (b ≤ r.lo) × (r.lo ≤ r.hi) × Apart (r.hi + 2) rs
 
 -- the spans of a row that have times
-unfoldable pub runs_in : List ℕ → List Run
-runs_in [] = []
-runs_in (x ∷ []) = []
-runs_in (lo ∷ (hi ∷ rest)) = cond (nat_le lo hi) (record { lo = lo; hi = hi } ∷ runs_in rest) (runs_in rest)
+abbrev pub run_in : Case → Run
+run_in k = record { lo = k.lo; hi = k.hi }
+
+abbrev pub runs_in : List Case → List Run
+runs_in row = map run_in (filter (λ k. nat_le k.lo k.hi) row)
 
 -- of every run of events that the row stands for: a time is in one of the runs exactly if some world has it now
-abbrev pub RunsExact : List ℕ → List Run → Type 0
+abbrev pub RunsExact : List Case → List Run → Type 0
 RunsExact row runs = (r : Rules) (es : List Event) (cs : List ℕ) → Stands r es cs row → (t : ℕ) → Decides (in_runs t runs) (World r es t)
+
+-- the next run overlaps one or lies beside it; and the two as one
+abbrev pub is_beside : Run → Run → Bool
+is_beside r s = nat_le (s.lo - r.hi) 1
+
+abbrev pub wider : Run → Run → Run
+wider r s = record { lo = r.lo; hi = max r.hi s.hi }
 
 -- Runs in increasing order joined where they overlap or lie beside each other: one is open, and grows or is closed by the next.
 unfoldable pub joined_to : Run → List Run → List Run
 joined_to r [] = r ∷ []
-joined_to r (s ∷ ss) = cond (nat_le (s.lo - r.hi) 1) (joined_to (record { lo = r.lo; hi = max r.hi s.hi }) ss) (r ∷ joined_to s ss)
+joined_to r (s ∷ ss) = cond (is_beside r s) (joined_to (wider r s) ss) (r ∷ joined_to s ss)
 
 unfoldable pub joined : List Run → List Run
 joined [] = []

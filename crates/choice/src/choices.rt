@@ -1,5 +1,6 @@
 // The choices of faulty servers: each a number whose bit `v` says that server `v` is assumed to be faulty.
-ghost use Rattle.std.specs.Prelude.{◌≡◌, ℕ, ◌^◌, ◌<◌, ◌≤◌, List, IfOk, vec_len};
+ghost use Rattle.std.specs.Prelude.{◌≡◌, ℕ, ◌^◌, ◌<◌, ◌≤◌, List, count_ones, filter, IfOk, vec_len, ◌==◌};
+ghost use Rattle.std.specs.List.{range_with_len};
 ghost use Rattle.choice.specs.Choice.{chosen};
 ghost use Rattle.choice.specs.Cases.{Worked};
 ghost use Rattle.choice.specs.Promise.{ExactOverAll, FullSayAll, NoRuleSaysLess, SaysNoLess};
@@ -7,13 +8,22 @@ ghost use Rattle.span.specs.Known.{BoundsLoseNothing, KnownExact, MoreFaultyWide
 ghost use Rattle.choice.specs.Stands.{AllChosen};
 ghost use Rattle.span.specs.World.{Event};
 
+use crate::servers::Servers;
 use std::alloc::{AllocError, Global};
 
-// All choices of just `faulty` of the servers. A choice of fewer has a narrower span than one of these, so that nothing is lost without them.
-pub fn choices(heap: Global, servers: u8, faulty: u8) -> Result<Vec<u16>, AllocError>
-    requires { servers ≤ 10 }
-    ensures items { IfOk result (λ v. v.items ≡ chosen faulty (2 ^ servers)) }
-    ensures all { IfOk result (λ v. AllChosen servers faulty v.items) }
+// The numbers below an end that have so many bits set.
+fn with_ones(alloc: Global, end: u16, ones: u32) -> Result<Vec<u16>, AllocError>
+    ensures items { IfOk result (λ v. v.items ≡ filter (λ c. count_ones c == ones) (range_with_len 0 end)) }
+{
+    (0..end)
+        .filter(|choice| choice.count_ones() == ones)
+        .collect(alloc)
+}
+
+// All choices of just as many of the servers as may be faulty. A choice of fewer has a narrower span than one of these, so that nothing is lost without them.
+pub fn choices(alloc: Global, servers: Servers) -> Result<Vec<u16>, AllocError>
+    ensures items { IfOk result (λ v. v.items ≡ chosen servers.faulty (2 ^ servers.many)) }
+    ensures all { IfOk result (λ v. AllChosen servers.many servers.faulty v.items) }
     ensures bounds { BoundsLoseNothing }
     ensures known { KnownExact }
     ensures whole { ExactOverAll }
@@ -21,16 +31,9 @@ pub fn choices(heap: Global, servers: u8, faulty: u8) -> Result<Vec<u16>, AllocE
     ensures wider { MoreFaultyWider }
     ensures full { FullSayAll }
     ensures worked { Worked }
-    ensures few { IfOk result (λ v. faulty < servers → vec_len v ≤ 252) }
+    ensures few { IfOk result (λ v. servers.faulty < servers.many → vec_len v ≤ 252) }
 {
-    let mut all = Vec::new(heap);
-    let faulty = u32::from(faulty);
-    for choice in 0..1u16 << servers {
-        if choice.count_ones() == faulty {
-            all.push(choice)?;
-        }
-    }
-    Ok(all)
+    with_ones(alloc, 1 << servers.many(), u32::from(servers.faulty()))
 }
 
 // Any rule whatever by which somebody might say times of a run of events, and blame servers.

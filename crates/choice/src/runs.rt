@@ -1,8 +1,10 @@
 // What may be, as runs of times.
-ghost use Rattle.std.specs.Prelude.{◌≡◌, ℕ, ◌+◌, ◌*◌, ◌<◌, ◌≤◌, ◌++◌, length, take};
+ghost use Rattle.std.specs.Prelude.{◌≡◌, ℕ, ◌+◌, ◌≤◌, ◌++◌, length, if◌then◌else◌, vec_capacity, vec_len};
 ghost use Rattle.span.specs.Span.{is_in};
 ghost use Rattle.choice.specs.Row.{any_span};
-ghost use Rattle.choice.specs.Runs.{in_run, in_runs, Ordered, Apart, runs_in, joined, bounds_of, Bounds, RunsExact};
+ghost use Rattle.choice.specs.Runs.{in_run, in_runs, is_beside, joined, runs_in, wider, Apart, Bounds, bounds_of, Ordered, RunsExact};
+
+use crate::case::Case;
 
 // The times from `lo` to `hi`, both included.
 #[derive(Clone, Copy, PartialEq, Eq, PartialOrd, Ord)]
@@ -13,87 +15,80 @@ pub struct Run {
 
 impl Run {
     // Whether a time is in the run.
-    fn holds(self, t: u64) -> bool
+    pub fn contains(self, t: u64) -> bool
         ensures value { result ≡ in_run t self }
     {
         self.lo <= t && t <= self.hi
     }
 }
 
-// Puts the spans of a row that have times into the front of the room, in their order, and says how many they are.
-fn gather(row: &[u64], room: &mut [Run]) -> usize
-    requires { length row.now ≤ 2 * length room.old }
-    ensures front { take result room.new ≡ runs_in row.now }
-    ensures within { result ≤ length room.new }
+// Whether the next run overlaps a run or lies beside it; the run then takes it in.
+fn is_taken_in(next: &mut Run, run: &mut Run) -> bool
+    ensures value { result ≡ is_beside run.old next.old }
+    ensures run { run.new ≡ (if is_beside run.old next.old then wider run.old next.old else run.old) }
+    ensures next { next.new ≡ next.old }
 {
-    let mut n = 0;
-    for k in 0..row.len() / 2 {
-        let lo = row[2 * k];
-        let hi = row[2 * k + 1];
-        if lo <= hi {
-            room[n] = Run { lo, hi };
-            n += 1;
-        }
+    let beside = next.lo.saturating_sub(run.hi) <= 1;
+    if beside {
+        run.hi = run.hi.max(next.hi);
     }
-    n
+    beside
 }
 
-// Joins runs in increasing order that overlap or lie beside each other, into the front of the same slice, and says how many are left.
-fn join(runs: &mut [Run]) -> usize
-    ensures joined { take result runs.new ≡ joined runs.old }
-    ensures within { result ≤ length runs.new }
+// Adds the spans of a row that have times, in their order.
+fn gather(row: &[Case], runs: &mut Vec<Run>)
+    requires { vec_len runs.old + length row.now ≤ vec_capacity runs.old }
+    ensures items { runs.new.items ≡ runs.old.items ++ runs_in row.now }
+    ensures room { vec_capacity runs.new ≡ vec_capacity runs.old }
 {
-    if runs.is_empty() {
-        return 0;
-    }
-    let mut wide = runs[0];
-    let mut n = 0;
-    for i in 1..runs.len() {
-        let next = runs[i];
-        if next.lo.saturating_sub(wide.hi) > 1 {
-            runs[n] = wide;
-            n += 1;
-            wide = next;
-        } else {
-            wide.hi = wide.hi.max(next.hi);
+    for case in row {
+        if case.lo <= case.hi {
+            let lo = case.lo;
+            let hi = case.hi;
+            runs.push_reserved(Run { lo, hi });
         }
     }
-    runs[n] = wide;
-    n + 1
 }
 
-// Sorts runs and joins them, into the front of the same slice, and says how many are left.
-fn tidy(runs: &mut [Run]) -> usize
-    ensures apart { Ordered runs.old → Apart 0 (take result runs.new) }
-    ensures same { Ordered runs.old → (t : ℕ) → in_runs t (take result runs.new) ≡ in_runs t runs.old }
-    ensures within { result ≤ length runs.old }
+// Joins runs in increasing order that overlap or lie beside each other.
+fn join(runs: &mut Vec<Run>)
+    ensures joined { runs.new.items ≡ joined runs.old.items }
+    ensures few { vec_len runs.new ≤ vec_len runs.old }
+    ensures room { vec_capacity runs.new ≡ vec_capacity runs.old }
+{
+    runs.dedup_by(is_taken_in);
+}
+
+// Sorts runs and joins them.
+fn tidy(runs: &mut Vec<Run>)
+    ensures apart { Ordered runs.old.items → Apart 0 runs.new.items }
+    ensures same { Ordered runs.old.items → (t : ℕ) → in_runs t runs.new.items ≡ in_runs t runs.old.items }
+    ensures few { vec_len runs.new ≤ vec_len runs.old }
+    ensures room { vec_capacity runs.new ≡ vec_capacity runs.old }
 {
     runs.sort_unstable();
-    join(runs)
+    join(runs);
 }
 
-// What may be by the spans of a row, as runs in the front of the room: says how many.
-pub fn union(row: &[u64], room: &mut [Run]) -> usize
-    requires { length row.now ≤ 2 * length room.old }
-    ensures apart { Apart 0 (take result room.new) }
-    ensures same { (t : ℕ) → in_runs t (take result room.new) ≡ any_span (is_in t) row.now }
-    ensures exact { RunsExact row.now (take result room.new) }
-    ensures few { 2 * result ≤ length row.now }
+// What may be by the spans of a row, as runs. It allocates nothing: there is room for a run of each case.
+pub fn union(row: &[Case], runs: &mut Vec<Run>)
+    requires { length row.now ≤ vec_capacity runs.old }
+    ensures apart { Apart 0 runs.new.items }
+    ensures same { (t : ℕ) → in_runs t runs.new.items ≡ any_span (is_in t) row.now }
+    ensures exact { RunsExact row.now runs.new.items }
+    ensures few { vec_len runs.new ≤ length row.now }
+    ensures room { vec_capacity runs.new ≡ vec_capacity runs.old }
 {
-    let n = gather(row, room);
-    tidy(&mut room[0..n])
+    runs.clear();
+    gather(row, runs);
+    tidy(runs);
 }
 
 // Whether a time is in one of the runs.
 pub fn contains(runs: &[Run], t: u64) -> bool
     ensures value { result ≡ in_runs t runs.now }
 {
-    for run in runs {
-        if run.holds(t) {
-            return true;
-        }
-    }
-    false
+    runs.iter().any(|run| run.contains(t))
 }
 
 // The least and the greatest time of the runs, if there is one.
@@ -101,8 +96,7 @@ pub fn bounds(runs: &[Run]) -> Option<(u64, u64)>
     ensures value { result ≡ bounds_of runs.now }
     ensures exact { Apart 0 runs.now → Bounds runs.now result }
 {
-    if runs.is_empty() {
-        return None;
-    }
-    Some((runs[0].lo, runs[runs.len() - 1].hi))
+    let first = runs.first()?;
+    let last = runs.last()?;
+    Some((first.lo, last.hi))
 }

@@ -1,49 +1,26 @@
-use Rattle.std.proofs.Common.{◌≡◌, ◌^◌, [], ◌∷◌, ◌++◌, length, is_ok, vec_items, sym, ap, ◌∙◌, subst, add-one, arith}
-use Rattle.std.proofs.ResultArms.{chosen}
+use Rattle.std.proofs.Common.{◌≡◌, ◌^◌, eqb, filter, length, vec_items, sym, ap, ap₂, ◌∙◌, subst, arith}
+use lib.Count.{ones}
+use Rattle.std.specs.List.{range_with_len}
 use Rattle.std.proofs.lemmas.Nat.{one_shl}
-use Rattle.std.proofs.lemmas.Result.{IfOk-from_err}
-use Rattle.choice.specs.Choice as choice
+use Rattle.std.proofs.lemmas.Result.{IfOk-weaker}
+use Rattle.choice.specs.Choice.{chosen}
 use Rattle.choice.specs.Stands.{AllFull}
 use Rattle.choice.proofs.Table.{worked}
 use Rattle.span.proofs.Paths.{bounds_lose_nothing, known_exact, more_faulty_wider}
 use Rattle.choice.proofs.Whole.{exact_over_all}
 use Rattle.choice.proofs.Fuller.{full_say, no_rule_says_less}
-use Rattle.choice.proofs.Chosen.{chosen_takes, chosen_leaves, all_full, chosen_few}
+use Rattle.choice.proofs.Chosen.{all_full, chosen_few, chosen_is}
 use Rattle.choice.proofs.choices.choices.Goals as goal
-use Rattle.choice.proofs.choices.choices.Goals.{then-choice-faulty+in_ok-push, else-choice-faulty}
-
-pub loop-choice-init : goal.loop-choice-init
-unfolding choice.chosen
-loop-choice-init c = c.new-all.ensures.items
-
-pub loop-choice-preserved : goal.loop-choice-preserved
-loop-choice-preserved c =
-    let f = c.from-faulty.result in
-    let k = c.loop-choice.choice in
-    elim c.if-choice-faulty.branch [
-      | then-choice-faulty+in_ok-push w ↦
-          ap vec_items w.all-is
-          ∙ chosen _ _ _ _ w.push.ensures.items (ap is_ok w.in_ok-push.was)
-          ∙ ap (λ x. x ++ k ∷ []) c.loop-choice.invariant
-          ∙ sym (chosen_takes f k w.if-choice-faulty.true)
-          ∙ ap (choice.chosen f) (sym (add-one k))
-      | else-choice-faulty w ↦
-          ap vec_items w.all-is
-          ∙ c.loop-choice.invariant
-          ∙ sym (chosen_leaves f k w.if-choice-faulty.false)
-          ∙ ap (choice.chosen f) (sym (add-one k))
-    ]
 
 pub returns : goal.returns
 returns c =
-    let n = c.args.servers in
-    let f = c.args.faulty in
-    let bound = one_shl n 16 (omega (arith, c.requires)) in
-    let last : c.loop-choice.choice ≡ 2 ^ n = omega arith in
-    let items : vec_items c.loop-choice.all ≡ choice.chosen f (2 ^ n) = c.loop-choice.invariant ∙ ap (λ x. choice.chosen x c.loop-choice.choice) c.from-faulty.ensures ∙ ap (choice.chosen f) last in
+    let n = c.args.servers.many in
+    let f = c.args.servers.faulty in
+    let end = one_shl c.many.result 16 (omega (arith, c.many.ensures.few)) ∙ ap (λ k. 2 ^ k) c.many.ensures.value in
+    let items = IfOk-weaker c.with_ones.result _ (λ v. vec_items v ≡ chosen f (2 ^ n)) (λ v h. h ∙ ap₂ (λ m k. filter (λ c. eqb (ones c) m) (range_with_len 0 k)) (c.from.ensures ∙ c.faulty.ensures.value) end ∙ chosen_is f (2 ^ n)) c.with_ones.ensures.items in
     record {
       items = items;
-      all = λ r s q l. subst (AllFull r) (sym items) (all_full r n f s q l);
+      all = IfOk-weaker c.with_ones.result _ _ (λ v h r s q l. subst (AllFull r) (sym h) (all_full r n f s q l)) items;
       bounds = bounds_lose_nothing;
       known = known_exact;
       whole = exact_over_all;
@@ -51,21 +28,5 @@ returns c =
       wider = more_faulty_wider;
       full = full_say;
       worked = worked;
-      few = λ l. omega (arith, c.loop-choice.all.ok.0, ap length items, chosen_few n f c.requires l);
-    }
-
-pub returns-in_err-push : goal.returns-in_err-push
-returns-in_err-push c =
-    let none = c.from_residual.ensures.0 in
-    record {
-      items = IfOk-from_err c.from_residual.result _ none;
-      all = IfOk-from_err c.from_residual.result _ none;
-      bounds = bounds_lose_nothing;
-      known = known_exact;
-      whole = exact_over_all;
-      least = no_rule_says_less;
-      wider = more_faulty_wider;
-      full = full_say;
-      worked = worked;
-      few = IfOk-from_err c.from_residual.result _ none;
+      few = IfOk-weaker c.with_ones.result _ _ (λ v h l. omega (arith, v.ok.0, ap length h, chosen_few n f c.args.servers.few l)) items;
     }

@@ -1,9 +1,10 @@
-use Rattle.std.proofs.Common.{◌≡◌, ◌*◌, ◌++◌, take, drop}
-use Rattle.choice.specs.Row.{over_row, cut_at}
+use Rattle.std.proofs.Common.{◌≡◌, ◌++◌, take, drop}
+use Rattle.span.specs.Model.{cut_by}
+use Rattle.choice.specs.Choice.{bit}
+use Rattle.choice.specs.Row.{over_row}
 use Rattle.choice.specs.Moves.{claim_of}
 use Rattle.choice.proofs.row.cut_row.Given as goal
 
 -- what is done and what is left to do are the whole
-abbrev pub invariant-loop-k : goal.invariant-loop-k
-invariant-loop-k l =
-    take (2 * l.k) l.row ++ over_row (cut_at l.choices (claim_of l.claim)) l.k (drop (2 * l.k) l.row) ≡ over_row (cut_at l.choices (claim_of l.claim)) 0 l.initial.row
+abbrev pub invariant-loop-case : goal.invariant-loop-case
+invariant-loop-case l = take l.case-index l.row ++ over_row (λ c s. cut_by (bit c) (claim_of l.claim) s) (drop l.case-index l.row) ≡ over_row (λ c s. cut_by (bit c) (claim_of l.claim) s) l.initial.row

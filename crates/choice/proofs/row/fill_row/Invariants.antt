@@ -1,7 +1,7 @@
-use Rattle.std.proofs.Common.{◌≡◌, ◌*◌, ◌++◌, take, drop}
+use Rattle.std.proofs.Common.{◌≡◌, ◌++◌, take, drop}
 use Rattle.choice.specs.Row.{over_row}
 use Rattle.choice.proofs.row.fill_row.Given as goal
 
 -- what is done and what is left to do are the whole
-abbrev pub invariant-loop-place : goal.invariant-loop-place
-invariant-loop-place l = take (2 * l.place) l.row ++ over_row (λ k s. l.span) l.place (drop (2 * l.place) l.row) ≡ over_row (λ k s. l.span) 0 l.initial.row
+abbrev pub invariant-loop-case : goal.invariant-loop-case
+invariant-loop-case l = take l.case-index l.row ++ over_row (λ c s. l.span) (drop l.case-index l.row) ≡ over_row (λ c s. l.span) l.initial.row

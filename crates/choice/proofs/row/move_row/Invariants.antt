@@ -1,9 +1,8 @@
-use Rattle.std.proofs.Common.{◌≡◌, ◌*◌, ◌++◌, take, drop}
+use Rattle.std.proofs.Common.{◌≡◌, ◌++◌, take, drop}
 use Rattle.span.specs.Span.{moved}
 use Rattle.choice.specs.Row.{over_row}
 use Rattle.choice.proofs.row.move_row.Given as goal
 
 -- what is done and what is left to do are the whole
-abbrev pub invariant-loop-k : goal.invariant-loop-k
-invariant-loop-k l =
-    take (2 * l.k) l.row ++ over_row (λ k s. moved l.stride.least l.stride.most s) l.k (drop (2 * l.k) l.row) ≡ over_row (λ k s. moved l.stride.least l.stride.most s) 0 l.initial.row
+abbrev pub invariant-loop-case : goal.invariant-loop-case
+invariant-loop-case l = take l.case-index l.row ++ over_row (λ c s. moved l.stride.least l.stride.most s) (drop l.case-index l.row) ≡ over_row (λ c s. moved l.stride.least l.stride.most s) l.initial.row

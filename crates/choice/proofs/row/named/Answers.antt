@@ -24,7 +24,7 @@ loop-server-init c = nobody_yet _
 
 pub loop-server-preserved : goal.loop-server-preserved
 loop-server-preserved c =
-    let p : Faulty = λ v. named_by v c.args.choices.now c.args.row.now in
+    let p : Faulty = λ v. named_by v c.args.row.now in
     let n = c.loop-server.server in
     elim c.if-is_named.branch [
       | then-is_named w ↦ w.named-is ∙ ap (bit_or c.loop-server.named) (one_shl n 16 (omega (arith, c.requires))) ∙ ap (λ m. bit_or m (2 ^ n)) c.loop-server.invariant ∙ with_bit p n ∙ next p n true w.if-is_named.ensures.value
@@ -34,5 +34,5 @@ loop-server-preserved c =
 pub returns : goal.returns
 returns c =
     let last : c.loop-server.server ≡ c.args.servers = omega arith in
-    let whole = c.loop-server.invariant ∙ ap (choice_of (λ v. named_by v c.args.choices.now c.args.row.now)) last in
-    record { value = whole; exact = names_exact c.args.servers c.args.choices.now c.args.row.now _ whole }
+    let whole = c.loop-server.invariant ∙ ap (choice_of (λ v. named_by v c.args.row.now)) last in
+    record { value = whole; exact = names_exact c.args.servers c.args.row.now _ whole }
