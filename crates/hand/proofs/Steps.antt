@@ -11,14 +11,14 @@ use Rattle.hand.specs.Steady.{Behind, Least, Upto, Middle, Step}
 
 -- no time before the runs may be
 below : (b v : ℕ) (rs : List Run) → Apart b rs → v < b → in_runs v rs ≡ false
-unfolding in_runs Apart
+unfolding Apart
 below b v [] a h = refl
 below b v (r ∷ rs) a h =
     or_from _ _ (and_left _ _ (lt-leb r.lo v (omega (arith, a.0)))) (below (r.hi + 2) v rs a.2 (omega (arith, a.0, a.1)))
 
 -- the least time of the first run is the least of all
 pub first_least : (r : Run) (rs : List Run) → Apart 0 (r ∷ rs) → Least (r ∷ rs) r.lo
-unfolding in_runs Apart
+unfolding Apart
 first_least r rs a = (
   or_left _ _ (and_from _ _ (le-leb r.lo r.lo (le_refl r.lo)) (le-leb r.lo r.hi a.1)),
   λ v h. ⊎_elim
@@ -37,7 +37,7 @@ next_ahead t (r ∷ rs) = go (leb t r.hi) (next_ahead t rs) where
 
 -- nothing may be between a time and the next
 next_clear : (b t : ℕ) (rs : List Run) → Apart b rs → (v : ℕ) → t ≤ v → v < next t rs → in_runs v rs ≡ false
-unfolding next in_runs Apart
+unfolding next Apart
 next_clear b t [] a v l h = refl
 next_clear b t (r ∷ rs) a v l h = go (leb t r.hi) refl h (λ k. next_clear (r.hi + 2) t rs a.2 v l k) where
   go : (q : Bool) → leb t r.hi ≡ q → v < cond q (max t r.lo) (next t rs) → (v < next t rs → in_runs v rs ≡ false) → (in_run v r || in_runs v rs) ≡ false
@@ -48,7 +48,7 @@ next_clear b t (r ∷ rs) a v l h = go (leb t r.hi) refl h (λ k. next_clear (r.
 
 -- the next time may be, or there is none
 pub next_may : (b t : ℕ) (rs : List Run) → Apart b rs → (in_runs (next t rs) rs ≡ true) ⊎ ((next t rs ≡ t) × Behind rs t)
-unfolding next in_runs Apart
+unfolding next Apart
 next_may b t [] a = inr (refl, λ v h. absurd (false≢true h))
 next_may b t (r ∷ rs) a = go (leb t r.hi) refl (next_may (r.hi + 2) t rs a.2) where
   le_lt : {x y z : ℕ} → x ≤ y → y < z → x < z
@@ -83,7 +83,7 @@ next_sound t rs a = ⊎_elim (λ h. may_sound (next t rs) rs h) (λ h. out h.0 h
 
 -- every time of a run may be, so its middle does
 middle_may : (b : ℕ) (rs : List Run) → Apart b rs → (k : ℕ) (d : Run) → k < length rs → in_runs (middle (get_or rs k d)) rs ≡ true
-unfolding in_runs Apart
+unfolding Apart
 middle_may b [] a k d l = absurd (omega arith)
 middle_may b (r ∷ rs) a zero d l = or_left _ _ (and_from _ _ (le-leb r.lo _ (omega (arith, a.1))) (le-leb _ r.hi (omega (arith, a.1))))
 middle_may b (r ∷ rs) a (suc k) d l = or_right _ _ (middle_may (r.hi + 2) rs a.2 k d (omega arith))

@@ -7,7 +7,7 @@ use Rattle.span.specs.Span.{ceiling}
 use Rattle.choice.specs.declared.runs.Run.{Run}
 use Rattle.choice.specs.Runs.{in_runs, Apart}
 use Rattle.hand.specs.declared.Hand.{Hand}
-use Rattle.hand.specs.Hand.{reach, towards, step, onward, wanted, lost, stepped, heard, passed}
+use Rattle.hand.specs.Hand.{reach, towards, step, onward, wanted, lost, stepped, heard, passed, sound_in}
 use Rattle.hand.specs.Steady.{Behind, Least, Step, NeverBack, Kept, Update, Heard, Passed, Lost, runs_of, ticks_of, updated, after, Stands, any_showing, free_after, ticks_in, Forced, SomewhereForced, AlwaysKept, NeverGoesBack, SlowUnlessForced, FreeUntilHeard, ShowsOnceHeard, NeverPastCeiling, OneRun, SoundExact}
 use Rattle.hand.proofs.Looks.{none}
 use Rattle.hand.proofs.Steps.{first_least, next_ahead, may_sound, wants_middle, step_well, step_under}
@@ -19,12 +19,6 @@ none_some : {u : ℕ} → ◌≡◌ {A = Option ℕ} None (Some u) → ⊥
 none_some e = let z : ◌≡◌ {A = ℕ} 0 1 = cc in omega arith
 
 -- What each method gives is the model's.
-pub lost_some : (n t u : ℕ) (h : Hand) → h.time ≡ Some t → u ≡ onward n t → ◌≡◌ {A = Hand} (record { time = Some u; free = true }) (lost n h)
-lost_some n t u h e p = ap (λ x. record { time = Some x; free = true }) p ∙ ap (λ o. record { time = option_map (onward n) o; free = true }) (sym e)
-
-pub lost_none : (n : ℕ) (h : Hand) → h.time ≡ None → ◌≡◌ {A = Hand} (record { time = None; free = true }) (lost n h)
-lost_none n h e = ap (λ o. record { time = option_map (onward n) o; free = true }) (sym e)
-
 pub heard_none : (rs : List Run) (n : ℕ) (h k : Hand) → length rs ≡ 0 → k ≡ lost n h → k ≡ heard rs n h
 heard_none [] n h k l e = e
 heard_none (r ∷ rs) n h k l e = absurd (omega arith)
@@ -214,7 +208,6 @@ never_past_ceiling (e ∷ es) all t h =
     (updated_keeps e (after es) all.0.0).under all.0.1 (λ s k. never_past_ceiling es all.1 s k) t h
 
 pub one_run : OneRun
-unfolding in_runs
 one_run r t h = go r.lo r.hi h where
   go : (lo hi : ℕ) → lo ≤ t → Decides (not (in_runs t (record { lo = lo; hi = hi } ∷ []))) (Behind (record { lo = lo; hi = hi } ∷ []) t)
   go lo hi h = (λ k v m. past k v m, λ b. out b) where
@@ -225,9 +218,8 @@ one_run r t h = go r.lo r.hi h where
     out b = ⊎_elim (λ k. absurd (omega (arith, b t k))) (λ k. not_from_false _ k) (cases_Bool ((leb lo t && leb t hi) || false))
 
 -- What a hand says of its soundness, asked with the runs of the latest update.
-pub sound_exact : (rs : List Run) (h : Hand) (t : ℕ) (answer : Bool) → h.time ≡ Some t → answer ≡ in_runs t rs → SoundExact rs h answer
-sound_exact rs h t answer k p es e s q a f u l =
-    let at = some_is (sym k ∙ l) in
+pub sound_exact : (rs : List Run) (h : Hand) (answer : Bool) → answer ≡ sound_in rs h.time → SoundExact rs h answer
+sound_exact rs h answer p es e s q a f u l =
     let keeps : Kept (runs_of e) (ticks_of e) (after es) h = subst (Kept (runs_of e) (ticks_of e) (after es)) (sym s) (always_kept es e (subst (Apart 0) (sym q) a)) in
     let there : Decides (not (in_runs u rs)) (Behind rs u) = subst (λ x. Decides (not (in_runs u x)) (Behind x u)) q (keeps.sound f u l) in
-    subst (λ b. Decides (not b) (Behind rs u)) (sym (p ∙ ap (λ x. in_runs x rs) at)) there
+    subst (λ b. Decides (not b) (Behind rs u)) (sym (p ∙ ap (sound_in rs) l)) there

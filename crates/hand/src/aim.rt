@@ -1,6 +1,5 @@
 // Where the hand goes: towards the middle of the longest run, and to the next time that may be.
-ghost use Rattle.std.specs.Prelude.{◌≡◌};
-ghost use Rattle.choice.specs.Runs.{in_run, in_runs};
+ghost use Rattle.std.specs.Prelude.{◌≡◌, find, nat_le};
 ghost use Rattle.hand.specs.Hand.{length_of, longest, next, onward, step, towards, wanted};
 
 use choice::runs::Run;
@@ -15,26 +14,28 @@ fn length(run: Run) -> u64
 }
 
 // The longest of the first run and the rest, the earlier of equal ones.
+#[tactic(auto, unfolding(crate::specs::Hand::longest))]
 fn longest(first: Run, rest: &[Run]) -> Run
     ensures value { result ≡ longest first rest.now }
 {
-    let mut best = first;
-    for run in rest {
-        if length(*run) > length(best) {
-            best = *run;
+    rest.iter().copied().fold(first, |best, run| {
+        if length(run) > length(best) {
+            run
+        } else {
+            best
         }
-    }
-    best
+    })
 }
 
 // The middle, rounded down, of the longest run; 0 where there is none.
+#[tactic(auto, unfolding(crate::specs::Hand::wanted))]
 fn wanted(runs: &[Run]) -> u64
     ensures value { result ≡ wanted runs.now }
 {
-    if runs.is_empty() {
+    let [first, rest @ ..] = runs else {
         return 0;
-    }
-    let run = longest(runs[0], &runs[1..]);
+    };
+    let run = longest(*first, rest);
     ((run.lo as u128 + run.hi as u128) / 2) as u64
 }
 
@@ -47,16 +48,21 @@ fn towards(time: u64, goal: u64, ticks: u64) -> u64
     time.max(goal.min(reach))
 }
 
+// The first run that does not lie behind `time`.
+fn first_ahead(runs: &[Run], time: u64) -> Option<Run>
+    ensures value { result ≡ find (λ r. nat_le time r.hi) runs.now }
+{
+    runs.iter().copied().find(|run| time <= run.hi)
+}
+
 // The next time that may be, from `time` on; `time` itself where none is left.
 fn next(runs: &[Run], time: u64) -> u64
     ensures value { result ≡ next time runs.now }
 {
-    for run in runs {
-        if time <= run.hi {
-            return time.max(run.lo);
-        }
+    match first_ahead(runs, time) {
+        Some(run) => time.max(run.lo),
+        None => time,
     }
-    time
 }
 
 // An ordinary step from `time`, in so many ticks.
@@ -71,23 +77,4 @@ pub fn onward(time: u64, ticks: u64) -> u64
     ensures value { result ≡ onward ticks time }
 {
     time.max(time.saturating_add(ticks).min(CEILING))
-}
-
-// Whether a run has a time.
-fn holds(run: Run, time: u64) -> bool
-    ensures value { result ≡ in_run time run }
-{
-    run.lo <= time && time <= run.hi
-}
-
-// Whether a time may be.
-pub fn may(runs: &[Run], time: u64) -> bool
-    ensures value { result ≡ in_runs time runs.now }
-{
-    for run in runs {
-        if holds(*run, time) {
-            return true;
-        }
-    }
-    false
 }

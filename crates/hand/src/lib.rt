@@ -8,9 +8,9 @@ ghost use Rattle.hand.specs.Steady.{Update, Heard, Passed, Lost, Kept, NeverBack
 
 mod aim;
 
-use choice::runs::Run;
+use choice::runs::{Run, contains};
 
-// The time that is shown, if any, and whether it runs freely since no world was left.
+// The time that is shown, if any, and whether it runs freely since no world was left. The flag is no part of the time: a hand that shows nothing yet may run freely too, so that an enum would have a case for each pair.
 #[derive(Clone, Copy)]
 pub struct Hand {
     time: Option<u64>,
@@ -36,13 +36,12 @@ impl Hand {
         ensures keeps { Apart 0 runs.now → Kept runs.now ticks self result }
         ensures stands { (es : List Update) → Stands es self → Stands (Heard runs.now ticks ∷ es) result }
     {
-        if runs.is_empty() {
+        let [first, ..] = runs else {
             return self.lost(ticks);
-        }
-        let first = runs[0].lo;
+        };
         let hand = self.stepped(runs, ticks);
         Hand {
-            time: Some(hand.time.unwrap_or(first)),
+            time: Some(hand.time.unwrap_or(first.lo)),
             free: false,
         }
     }
@@ -67,11 +66,10 @@ impl Hand {
         ensures keeps { Kept [] ticks self result }
         ensures stands { (es : List Update) → Stands es self → Stands (Lost ticks ∷ es) result }
     {
-        let time = match self.time {
-            Some(time) => Some(aim::onward(time, ticks)),
-            None => None,
-        };
-        Hand { time, free: true }
+        Hand {
+            time: self.time.map(|time| aim::onward(time, ticks)),
+            free: true,
+        }
     }
 
     // Whether it runs freely at an update that is no reply: no world is left, or none was and no reply came since.
@@ -85,11 +83,10 @@ impl Hand {
     fn stepped(self, runs: &[Run], ticks: u64) -> Hand
         ensures value { result ≡ stepped runs.now ticks self }
     {
-        let time = match self.time {
-            Some(time) => Some(aim::step(runs, time, ticks)),
-            None => None,
-        };
-        Hand { time, free: false }
+        Hand {
+            time: self.time.map(|time| aim::step(runs, time, ticks)),
+            free: false,
+        }
     }
 
     // The time that is shown, once a reply was accepted with a world left.
@@ -104,10 +101,7 @@ impl Hand {
         ensures value { result ≡ sound_in runs.now self.time }
         ensures exact { SoundExact runs.now self result }
     {
-        match self.time {
-            Some(time) => aim::may(runs, time),
-            None => false,
-        }
+        self.shown().is_some_and(|time| contains(runs, time))
     }
 }
 

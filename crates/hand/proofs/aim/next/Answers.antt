@@ -1,13 +1,9 @@
-use Rattle.std.proofs.Common.{sym, ◌∙◌, arith}
-use Rattle.hand.proofs.Looks.{next_hit, next_miss, next_end}
+use Rattle.std.proofs.Common.{sym, ap, ◌∙◌}
+use Rattle.hand.proofs.Looks.{from, next_found}
 use Rattle.hand.proofs.aim.next.Goals as goal
 
-pub returns-then-time-run : goal.returns-then-time-run
-returns-then-time-run c =
-    record { value = c.max.ensures ∙ sym (next_hit c.args.time c.loop-run.run-index c.args.runs.now (omega arith) (omega arith)) ∙ c.loop-run.invariant }
+pub returns-in-Some : goal.returns-in-Some
+returns-in-Some c = record { value = c.max.ensures ∙ ap (from c.args.time) (sym c.in-Some.is ∙ c.first_ahead.ensures.value) ∙ next_found c.args.time c.args.runs.now }
 
-pub loop-run-preserved : goal.loop-run-preserved
-loop-run-preserved c = next_miss c.args.time c.loop-run.run-index c.args.runs.now (omega arith) (omega arith) ∙ c.loop-run.invariant
-
-pub returns : goal.returns
-returns c = record { value = sym (next_end c.args.time c.loop-run.run-index c.args.runs.now (omega arith)) ∙ c.loop-run.invariant }
+pub returns-in-None : goal.returns-in-None
+returns-in-None c = record { value = ap (from c.args.time) (sym c.in-None.is ∙ c.first_ahead.ensures.value) ∙ next_found c.args.time c.args.runs.now }
