@@ -7,9 +7,9 @@ use Rattle.span.specs.Span.{is_in, holds_none}
 use Rattle.span.specs.Model.{moments, span_of}
 use Rattle.choice.specs.Choice.{bit, Allowed, choice_of}
 use Rattle.choice.specs.Promise.{Full, FaultyInAll, NoWorld}
-use Rattle.choice.specs.Row.{case_of, span_in, row_of, any_span, has_times, named_by}
+use Rattle.choice.specs.Row.{case_of, choices_in, span_in, row_of, row_through, any_span, has_times, named_by}
 use Rattle.choice.specs.declared.case.Case.{Case}
-use Rattle.choice.specs.Stands.{Stands, MayExact, LeftExact, NamedExact, NamesExact}
+use Rattle.choice.specs.Stands.{AllFull, Stands, MayExact, LeftExact, NamedExact, NamesExact}
 use Rattle.choice.proofs.Bits.{bit_there, choice_below, choice_bit}
 use Rattle.choice.proofs.Whole.{has_some, some_has, world_may, choice_world, exact_over_all}
 use Rattle.choice.proofs.Fuller.{full_say}
@@ -59,11 +59,24 @@ module _ (f : ℕ → Span) (kept : (c : ℕ) → Kept (f c)) where
       here true e = or_right (bit c v) (holds_none (span_in (case_of c (f c)))) (ap holds_none (kept c) ∙ e)
       here false e = or_left (bit c v) (holds_none (span_in (case_of c (f c)))) (h 0 (omega arith) e)
 
+-- the choices of the row of some choices are these; so a row that has the spans of all choices stands for the run
+pub choices_row : (f : ℕ → Span) (cs : List ℕ) → choices_in (row_of f cs) ≡ cs
+choices_row f [] = refl
+choices_row f (c ∷ cs) = ap (λ l. c ∷ l) (choices_row f cs)
+
+pub stands_by : (r : Rules) (es : List Event) (cs : List ℕ) (row : List Case) → AllFull r cs → row ≡ row_through r (moments es) cs → Stands r es row
+stands_by r es cs row a e =
+    let same : choices_in row ≡ cs = ap choices_in e ∙ choices_row (λ c. span_of r (bit c) es) cs in
+    record { choices = subst (AllFull r) (sym same) a; spans = e ∙ ap (row_through r (moments es)) (sym same) }
+
 -- a full choice is allowed
 full_allowed : (r : Rules) (c : ℕ) → Full r c → Allowed r c
 full_allowed r c h = record { there = h.there; few = omega (arith, h.many) }
 
-module _ (r : Rules) (es : List Event) (cs : List ℕ) (row : List Case) (s : Stands r es cs row) where
+module _ (r : Rules) (es : List Event) (row : List Case) (s : Stands r es row) where
+  abbrev cs : List ℕ
+  cs = choices_in row
+
   kept_each : (c : ℕ) → Kept (span_of r (bit c) es)
   kept_each c = kept_through r (bit c) (moments es)
 
@@ -110,16 +123,16 @@ module _ (r : Rules) (es : List Event) (cs : List ℕ) (row : List Case) (s : St
   )
 
 pub may_exact : (t : ℕ) (row : List Case) (b : Bool) → b ≡ any_span (is_in t) row → MayExact t row b
-may_exact t row b e r es cs s = subst (λ x. Decides x (World r es t)) (sym e) (may_row r es cs row s t)
+may_exact t row b e r es s = subst (λ x. Decides x (World r es t)) (sym e) (may_row r es row s t)
 
 pub left_exact : (row : List Case) (b : Bool) → b ≡ any_span has_times row → LeftExact row b
-left_exact row b e r es cs s = subst (λ x. (x ≡ true → (t : ℕ) × World r es t) × (x ≡ false → NoWorld r es)) (sym e) (left_row r es cs row s)
+left_exact row b e r es s = subst (λ x. (x ≡ true → (t : ℕ) × World r es t) × (x ≡ false → NoWorld r es)) (sym e) (left_row r es row s)
 
 pub named_exact : (v : ℕ) (row : List Case) (b : Bool) → b ≡ named_by v row → NamedExact v row b
-named_exact v row b e r es cs s = subst (λ x. Decides x (FaultyInAll r es v)) (sym e) (named_row r es cs row s v)
+named_exact v row b e r es s = subst (λ x. Decides x (FaultyInAll r es v)) (sym e) (named_row r es row s v)
 
 pub names_exact : (n : ℕ) (row : List Case) (set : ℕ) → set ≡ choice_of (λ v. named_by v row) n → NamesExact n row set
-names_exact n row set e r es cs s v = (
-  λ h. subst (λ b. Decides b (FaultyInAll r es v)) (sym (ap (λ c. bit c v) e ∙ choice_bit (λ v. named_by v row) n v h)) (named_row r es cs row s v),
+names_exact n row set e r es s v = (
+  λ h. subst (λ b. Decides b (FaultyInAll r es v)) (sym (ap (λ c. bit c v) e ∙ choice_bit (λ v. named_by v row) n v h)) (named_row r es row s v),
   λ h. bit_there set n v (subst (λ c. c < 2 ^ n) (sym e) (choice_below (λ v. named_by v row) n)) h,
 )

@@ -1,5 +1,5 @@
 -- What filling, moving and cutting a row makes of the spans of a run.
-use Rattle.std.specs.Prelude.{◌≡◌, ℕ, List, ◌∷◌, map}
+use Rattle.std.specs.Prelude.{◌≡◌, ℕ, List, ◌∷◌}
 use Rattle.span.specs.declared.Span.{Span}
 use Rattle.span.specs.Rate.{Strides}
 use Rattle.span.specs.World.{Rules}
@@ -8,7 +8,7 @@ use Rattle.span.specs.Model as model
 use Rattle.choice.specs.declared.case.Claim.{Claim}
 use Rattle.choice.specs.declared.case.Claim.TheVariants.{AtMost, AtLeast}
 use Rattle.choice.specs.declared.case.Case.{Case}
-use Rattle.choice.specs.Row.{row_of, row_through}
+use Rattle.choice.specs.Row.{choices_in, row_of, row_through}
 
 -- what a claim of the code says
 abbrev pub claim_of : Claim → model.Claim
@@ -18,10 +18,6 @@ claim_of (AtLeast v t) = model.AtLeast v t
 -- a moment with one claim more
 abbrev pub claimed : model.Claim → Moment → Moment
 claimed c m = record { ticks = m.ticks; claims = c ∷ m.claims }
-
--- the choices of a row
-abbrev pub choices_in : List Case → List ℕ
-choices_in row = map (λ k. k.choice) row
 
 -- filled with one span, a row is the row in which each of its choices has it
 abbrev pub RowFills : Span → List Case → List Case → Type 0

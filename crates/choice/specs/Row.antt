@@ -32,6 +32,10 @@ respan f k = case_of k.choice (f k.choice (span_in k))
 abbrev pub over_row : (ℕ → Span → Span) → List Case → List Case
 over_row f row = map (respan f) row
 
+-- the choices of a row
+abbrev pub choices_in : List Case → List ℕ
+choices_in row = map (λ k. k.choice) row
+
 -- the row of a span for each choice
 abbrev pub row_of : (ℕ → Span) → List ℕ → List Case
 row_of f cs = map (λ c. case_of c (f c)) cs

@@ -31,7 +31,7 @@ runs_in row = map run_in (filter (λ k. nat_le k.lo k.hi) row)
 
 -- of every run of events that the row stands for: a time is in one of the runs exactly if some world has it now
 abbrev pub RunsExact : List Case → List Run → Type 0
-RunsExact row runs = (r : Rules) (es : List Event) (cs : List ℕ) → Stands r es cs row → (t : ℕ) → Decides (in_runs t runs) (World r es t)
+RunsExact row runs = (r : Rules) (es : List Event) → Stands r es row → (t : ℕ) → Decides (in_runs t runs) (World r es t)
 
 -- the next run overlaps one or lies beside it; and the two as one
 abbrev pub is_beside : Run → Run → Bool

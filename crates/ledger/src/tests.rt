@@ -1,6 +1,9 @@
 // The worked cases, through the code.
 use crate::Ledger;
-use choice::row::{Claim, cut_row, move_row};
+use choice::case::Claim;
+use choice::row::{cut_row, move_row, new_row};
+use choice::servers::Servers;
+use span::Span;
 use span::rate::{Drift, Stride};
 use std::test::Fail;
 
@@ -12,6 +15,10 @@ fn exact(ticks: u64) -> Stride {
     }
 }
 
+fn servers(many: u8, faulty: u8) -> Result<Servers, Fail> {
+    Ok(Servers::new(many, faulty).ok_or("too many servers")?)
+}
+
 // Whether a ledger says just the times from one to another.
 fn says(ledger: &Ledger, at: usize, lo: u64, hi: u64) -> bool {
     let runs = ledger.runs();
@@ -20,7 +27,7 @@ fn says(ledger: &Ledger, at: usize, lo: u64, hi: u64) -> bool {
 
 #[test]
 fn two_agree(rt: HostRuntime) -> Result<(), Fail> {
-    let mut ledger = Ledger::new(rt.alloc(), 3, 1, 1 << 61)?;
+    let mut ledger = Ledger::new(rt.alloc(), servers(3, 1)?, 1 << 61)?;
     ledger.hear(exact(0), 0, 10, 20);
     ledger.hear(exact(0), 1, 15, 25);
     ledger.hear(exact(0), 2, 40, 50);
@@ -31,7 +38,7 @@ fn two_agree(rt: HostRuntime) -> Result<(), Fail> {
 
 #[test]
 fn the_middle_decides(rt: HostRuntime) -> Result<(), Fail> {
-    let mut ledger = Ledger::new(rt.alloc(), 3, 1, 1 << 61)?;
+    let mut ledger = Ledger::new(rt.alloc(), servers(3, 1)?, 1 << 61)?;
     ledger.hear(exact(0), 0, 10, 20);
     ledger.hear(exact(0), 1, 18, 30);
     ledger.hear(exact(0), 2, 28, 40);
@@ -45,17 +52,19 @@ fn the_middle_decides(rt: HostRuntime) -> Result<(), Fail> {
 }
 
 #[test]
-fn a_reply_bounds_its_asking(rt: HostRuntime) {
-    let mut row = [0, 1 << 61];
-    cut_row(&mut row, &[0], Claim::AtMost(0, 105));
+fn a_reply_bounds_its_asking(rt: HostRuntime) -> Result<(), Fail> {
+    let mut row = new_row(rt.alloc(), servers(1, 0)?, Span::upto(1 << 61))?;
+    cut_row(&mut row, Claim::AtMost(0, 105));
     move_row(&mut row, exact(30));
-    cut_row(&mut row, &[0], Claim::AtLeast(0, 95));
-    assert!(rt; row[0] == 95 && row[1] == 135);
+    cut_row(&mut row, Claim::AtLeast(0, 95));
+    assert_eq!(rt; row.len(), 1);
+    assert!(rt; row[0].choice == 0 && row[0].lo == 95 && row[0].hi == 135);
+    Ok(())
 }
 
 #[test]
 fn no_world_is_left(rt: HostRuntime) -> Result<(), Fail> {
-    let mut ledger = Ledger::new(rt.alloc(), 1, 0, 1 << 61)?;
+    let mut ledger = Ledger::new(rt.alloc(), servers(1, 0)?, 1 << 61)?;
     ledger.hear(exact(0), 0, 10, 20);
     ledger.hear(exact(0), 0, 30, 40);
     assert!(rt; ledger.runs().is_empty());
@@ -65,7 +74,7 @@ fn no_world_is_left(rt: HostRuntime) -> Result<(), Fail> {
 // Ten servers of which four may be faulty: 210 choices of just four.
 #[test]
 fn ten_servers(rt: HostRuntime) -> Result<(), Fail> {
-    let mut ledger = Ledger::new(rt.alloc(), 10, 4, 1 << 61)?;
+    let mut ledger = Ledger::new(rt.alloc(), servers(10, 4)?, 1 << 61)?;
     for server in 0..6u8 {
         ledger.hear(exact(0), server, 1000, 2000);
     }

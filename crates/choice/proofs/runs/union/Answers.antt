@@ -10,7 +10,7 @@ use Rattle.choice.proofs.Standing.{may_row}
 use Rattle.choice.proofs.runs.union.Goals as goal
 
 exact : (row : List Case) (rs : List Run) → ((t : ℕ) → in_runs t rs ≡ any_span (is_in t) row) → RunsExact row rs
-exact row rs h r es cs s t = subst (λ b. Decides b (World r es t)) (sym (h t)) (may_row r es cs row s t)
+exact row rs h r es s t = subst (λ b. Decides b (World r es t)) (sym (h t)) (may_row r es row s t)
 
 pub returns : goal.returns
 returns c =
