@@ -31,6 +31,19 @@ pub fn is_faulty(choice: u16, server: u8) -> bool
     server < 16 && (choice >> server) & 1 == 1
 }
 
+impl Claim {
+    // The span of a choice, cut by the claim if its server is not faulty there.
+    pub fn cut(self, choice: u16, span: Span) -> Span
+        ensures value { result ≡ cut_by (bit choice) (claim_of self) span }
+    {
+        match self {
+            Claim::AtMost(server, time) if !is_faulty(choice, server) => span.at_most(time),
+            Claim::AtLeast(server, time) if !is_faulty(choice, server) => span.at_least(time),
+            _ => span,
+        }
+    }
+}
+
 impl Case {
     // A choice with its span; where that has no times its ends are 1 and 0.
     pub fn new(choice: u16, span: Span) -> Case
@@ -68,13 +81,7 @@ impl Case {
     pub fn cut(self, claim: Claim) -> Case
         ensures value { result ≡ case_of self.choice (cut_by (bit self.choice) (claim_of claim) (span_in self)) }
     {
-        let span = self.span();
-        let cut = match claim {
-            Claim::AtMost(server, time) if !self.is_faulty(server) => span.at_most(time),
-            Claim::AtLeast(server, time) if !self.is_faulty(server) => span.at_least(time),
-            _ => span,
-        };
-        Case::new(self.choice, cut)
+        Case::new(self.choice, claim.cut(self.choice, self.span()))
     }
 
     // Whether it does not speak for a server: the server is faulty here, or there is no time.

@@ -1,13 +1,20 @@
-use Rattle.std.proofs.Common.{sym, subst}
-use Rattle.trail.specs.Trail.{RowSteps}
-use Rattle.trail.proofs.Walks.{moves_cuts, row_steps}
+use Rattle.std.proofs.Common.{get_or, sym, ◌∙◌, subst, arith}
+use Rattle.choice.specs.Row.{respan}
+use Rattle.choice.proofs.Rows.{map_all, map_step, no_case}
+use Rattle.trail.specs.Trail.{stepped, RowSteps}
+use Rattle.trail.proofs.Walks.{row_steps, step_case}
 use Rattle.trail.proofs.step_row.Goals as goal
+
+pub loop-case-preserved : goal.loop-case-preserved
+loop-case-preserved c =
+    let d = c.args.drift.millionths in
+    let m = c.args.moment in
+    map_step (respan (stepped d m)) c.loop-case.case-index c.loop-case.row _ _ (omega arith) (step_case d _ _ m (get_or c.loop-case.row c.loop-case.case-index no_case) _ _ c.stride-stride.ensures.value c.moved.ensures.value c.cut_case.ensures.value) ∙ c.loop-case.invariant
 
 pub returns : goal.returns
 returns c =
     let d = c.args.drift.millionths in
-    let cs = c.args.choices.now in
     let m = c.args.moment in
     let row = c.args.row.now in
-    let e = moves_cuts d _ _ cs m row _ _ c.stride.ensures.value c.move_row.ensures.after c.cut_by.ensures.after in
-    record { after = e; steps = subst (RowSteps d cs m row) (sym e) (row_steps d cs m row) }
+    let e = sym (map_all (respan (stepped d m)) c.loop-case.case-index c.loop-case.row (omega arith)) ∙ c.loop-case.invariant in
+    record { after = e; steps = subst (RowSteps d m row) (sym e) (row_steps d m row) }

@@ -6,17 +6,15 @@ use Rattle.trail.proofs.walk_row.Goals as goal
 pub loop-moment-preserved : goal.loop-moment-preserved
 loop-moment-preserved c =
     let d = c.args.drift.millionths in
-    let cs = c.args.choices.now in
     let rest = drop (c.loop-moment.moment-index + 1) c.args.moments.now in
-    ap (walked d cs rest) c.step_row.ensures.after
-    ∙ sym (walk_more d cs c.args.moments.now c.loop-moment.moment-index c.loop-moment.row c.loop-moment-test.true)
+    ap (walked d rest) c.step_row.ensures.after
+    ∙ sym (walk_more d c.args.moments.now c.loop-moment.moment-index c.loop-moment.row c.loop-moment-test.true)
     ∙ c.loop-moment.invariant
 
 pub returns : goal.returns
 returns c =
     let d = c.args.drift.millionths in
-    let cs = c.args.choices.now in
     let w = c.args.moments.now in
     let row = c.args.row.now in
-    let e = sym (walk_end d cs w c.loop-moment.moment-index c.loop-moment.row c.loop-moment-test.false) ∙ c.loop-moment.invariant in
-    record { after = e; walks = subst (RowWalks d cs w row) (sym e) (row_walks d cs w row) }
+    let e = sym (walk_end d w c.loop-moment.moment-index c.loop-moment.row c.loop-moment-test.false) ∙ c.loop-moment.invariant in
+    record { after = e; walks = subst (RowWalks d w row) (sym e) (row_walks d w row) }
