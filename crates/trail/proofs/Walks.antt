@@ -1,6 +1,7 @@
 -- Rows through moments.
 use Rattle.std.proofs.Common.{◌≡◌, ℕ, ◌+◌, false, ◌<◌, ◌≤◌, List, [], ◌∷◌, length, get_or, drop, None, sym, ap, ◌∙◌}
 use Rattle.std.proofs.lemmas.List.{at_drop_more, drop_all}
+use Rattle.span.specs.declared.Span.{Span}
 use Rattle.span.specs.Rate.{Strides}
 use Rattle.span.specs.Span.{moved}
 use Rattle.span.specs.Model.{cut_all, through}
@@ -8,17 +9,13 @@ use Rattle.span.proofs.Steps.{stride_later}
 use Rattle.choice.specs.declared.case.Case.{Case}
 use Rattle.choice.specs.Choice.{bit}
 use Rattle.choice.specs.Row.{case_of, over_row, respan, row_through, span_in}
-use Rattle.choice.proofs.Rows.{kept_moved, kept_through, over_rows}
+use Rattle.choice.proofs.Rows.{kept_through, over_rows}
 use Rattle.trail.specs.declared.Moment.{Moment}
 use Rattle.trail.specs.Trail.{claims_of, moment_of, onto, stepped, walked, RowSteps, RowWalks}
 
--- one case: moved on, and then cut by what is claimed
-pub step_case : (d a e : ℕ) (m : Moment) (k moved_on after : Case) → Strides d m.ticks a e → moved_on ≡ case_of k.choice (moved a e (span_in k)) → after ≡ respan (λ c s. cut_all (bit c) (claims_of m.claim) s) moved_on → after ≡ respan (stepped d m) k
-step_case d a e m k moved_on after s p q =
-    let cut : Case → Case = respan (λ c s. cut_all (bit c) (claims_of m.claim) s) in
-    q
-    ∙ ap cut p
-    ∙ ap (λ s. case_of k.choice (cut_all (bit k.choice) (claims_of m.claim) s)) (kept_moved a e (span_in k) ∙ stride_later d m.ticks a e (span_in k) s)
+-- one case: its span moved on, and then cut by what is claimed
+pub step_case : (d a e : ℕ) (m : Moment) (k : Case) (on after : Span) → Strides d m.ticks a e → on ≡ moved a e (span_in k) → after ≡ cut_all (bit k.choice) (claims_of m.claim) on → case_of k.choice after ≡ respan (stepped d m) k
+step_case d a e m k on after s p q = ap (case_of k.choice) (q ∙ ap (cut_all (bit k.choice) (claims_of m.claim)) (p ∙ stride_later d m.ticks a e (span_in k) s))
 
 pub row_steps : (d : ℕ) (m : Moment) (row : List Case) → RowSteps d m row (over_row (stepped d m) row)
 unfolding through

@@ -3,11 +3,12 @@
 
 ghost use Rattle.std.specs.Prelude.{◌≡◌};
 ghost use Rattle.choice.specs.Choice.{bit};
-ghost use Rattle.choice.specs.Row.{over_row, respan};
+ghost use Rattle.choice.specs.Row.{over_row};
 ghost use Rattle.span.specs.Model.{cut_all};
 ghost use Rattle.trail.specs.Trail.{claims_of, stepped, walked, RowSteps, RowWalks};
 
 use choice::case::{Case, Claim};
+use span::Span;
 use span::rate::Drift;
 
 // A moment: the local clock's count at it, the ticks since the moment before it, whether an event was marked at it, and at most one claim: at an asking what the reply to it says, once it came, and at a reply what that says.
@@ -19,16 +20,12 @@ pub struct Moment {
     pub claim: Option<Claim>,
 }
 
-// A case with its span cut by what is claimed, if something is.
+// The span of a choice, cut by what is claimed, if something is.
 #[tactic(auto, unfolding(span::specs::Model::cut_all))]
-pub fn cut_case(case: Case, claim: Option<Claim>) -> Case
-    ensures value { result ≡ respan (λ c s. cut_all (bit c) (claims_of claim) s) case }
+pub fn cut_by(span: Span, choice: u16, claim: Option<Claim>) -> Span
+    ensures value { result ≡ cut_all (bit choice) (claims_of claim) span }
 {
-    let span = case.span();
-    Case::new(
-        case.choice,
-        claim.map_or(span, |claim| claim.cut(case.choice, span)),
-    )
+    claim.map_or(span, |claim| claim.cut(choice, span))
 }
 
 // Takes a row through one moment: each span goes on by its ticks, and is cut by its claim if the claim's server is not faulty there.
@@ -38,7 +35,9 @@ pub fn step_row(row: &mut [Case], drift: Drift, moment: Moment)
 {
     let stride = drift.stride(moment.ticks);
     for case in row.iter_mut() {
-        *case = cut_case(case.moved(stride), moment.claim);
+        let choice = case.choice;
+        let span = case.span().moved(stride);
+        *case = Case::new(choice, cut_by(span, choice, moment.claim));
     }
 }
 

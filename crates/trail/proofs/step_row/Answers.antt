@@ -1,4 +1,5 @@
-use Rattle.std.proofs.Common.{get_or, sym, ◌∙◌, subst, arith}
+use Rattle.std.proofs.Common.{get_or, sym, ap, ◌∙◌, subst, arith}
+use Rattle.span.specs.Span.{moved}
 use Rattle.choice.specs.Row.{respan}
 use Rattle.choice.proofs.Rows.{map_all, map_step, no_case}
 use Rattle.trail.specs.Trail.{stepped, RowSteps}
@@ -9,7 +10,8 @@ pub loop-case-preserved : goal.loop-case-preserved
 loop-case-preserved c =
     let d = c.args.drift.millionths in
     let m = c.args.moment in
-    map_step (respan (stepped d m)) c.loop-case.case-index c.loop-case.row _ _ (omega arith) (step_case d _ _ m (get_or c.loop-case.row c.loop-case.case-index no_case) _ _ c.stride-stride.ensures.value c.moved.ensures.value c.cut_case.ensures.value) ∙ c.loop-case.invariant
+    let k = get_or c.loop-case.row c.loop-case.case-index no_case in
+    map_step (respan (stepped d m)) c.loop-case.case-index c.loop-case.row _ _ (omega arith) (c.new.ensures.value ∙ step_case d _ _ m k _ _ c.stride-stride.ensures.value (c.moved-span.ensures.value ∙ ap (moved c.stride-stride.result.least c.stride-stride.result.most) c.span.ensures.value) c.cut_by.ensures.value) ∙ c.loop-case.invariant
 
 pub returns : goal.returns
 returns c =
