@@ -1,7 +1,7 @@
 -- What is said of an event is exact for every run that the row and the kept moments stand for.
-use Rattle.std.proofs.Common.{◌≡◌, ℕ, zero, suc, ◌+◌, ◌*◌, ◌<◌, T, List, [], ◌∷◌, length, get_or, take, drop, None, Option, sym, ap, ◌∙◌, subst, ap₂, arith}
+use Rattle.std.proofs.Common.{◌≡◌, ℕ, zero, suc, ◌+◌, ◌<◌, T, List, [], ◌∷◌, length, get_or, take, drop, Contains, None, Option, sym, ap, ◌∙◌, subst, arith}
 use Rattle.span.specs.declared.Span.{Span}
-use Rattle.span.specs.Span.{is_in, span}
+use Rattle.span.specs.Span.{is_in}
 use Rattle.span.specs.World.{Rules, Event}
 use Rattle.span.specs.Model.{moments, through}
 use Rattle.span.specs.Model as model
@@ -9,7 +9,8 @@ use Rattle.span.specs.Past.{past_of}
 use Rattle.span.proofs.Past.{length_moments}
 use Rattle.choice.specs.Choice.{bit, Allowed}
 use Rattle.choice.specs.Promise.{Full}
-use Rattle.choice.specs.Row.{span_at, row_of}
+use Rattle.choice.specs.declared.case.Case.{Case}
+use Rattle.choice.specs.Row.{row_of, span_in}
 use Rattle.choice.specs.Stands.{AllFull}
 use Rattle.choice.specs.Past.{WorldAt}
 use Rattle.choice.proofs.Rows.{Kept, kept_through}
@@ -20,27 +21,24 @@ use Rattle.past.specs.Event.{span_then, said_by, LeastAndGreatest, since, onward
 use Rattle.past.proofs.Ways.{length_onto, past_kept}
 use Rattle.past.proofs.Widest.{InSome, meet_order, bounds_same, bounds_all, fewer_within}
 
--- the span at a place of a row of choices
-row_at : (g : ℕ → Span) → ((c : ℕ) → Kept (g c)) → (cs : List ℕ) (k : ℕ) → k < length cs → span_at (row_of g cs) k ≡ g (get_or cs k 0)
-unfolding row_of
-row_at g kept [] k l = absurd (omega arith)
-row_at g kept (c ∷ cs) zero l = kept c
-row_at g kept (c ∷ cs) (suc k) l =
-    let two : 2 * suc k ≡ suc (suc (2 * k)) = omega arith in
-    let three : 2 * suc k + 1 ≡ suc (suc (2 * k + 1)) = omega arith in
-    ap₂ (λ i j. span (get_or (row_of g (c ∷ cs)) i 0) (get_or (row_of g (c ∷ cs)) j 0)) two three ∙ row_at g kept cs k (omega arith)
+-- a case of a row of choices has the span of its choice
+in_row : (g : ℕ → Span) → ((c : ℕ) → Kept (g c)) → (cs : List ℕ) (k : Case) → Contains (row_of g cs) k → span_in k ≡ g k.choice
+in_row g kept [] k h = let l = h.1 in absurd (omega arith)
+in_row g kept (c ∷ cs) k h = go h.0 h.1 h.2 (in_row g kept cs k) where
+  go : (i : ℕ) → i < length (row_of g (c ∷ cs)) → get_or (row_of g (c ∷ cs)) i k ≡ k → (Contains (row_of g cs) k → span_in k ≡ g k.choice) → span_in k ≡ g k.choice
+  go zero l e later = subst (λ k. span_in k ≡ g k.choice) e (kept c)
+  go (suc i) l e later = later (i, omega arith, e)
 
 -- the span that is taken for a choice is that of the past moment
 taken : (d : ℕ) (kept : List Moment) (place : ℕ) (r : Rules) (es : List Event) (older : List model.Moment) → r.drift ≡ d → moments es ≡ onto kept older → (c : ℕ) → span_then d c (take (place + 1) kept) (drop (place + 1) kept) (through r (bit c) older) ≡ past_of r (bit c) (since kept place) es
 taken d kept place r es older e m c =
     ap (λ x. span_then x c (take (place + 1) kept) (drop (place + 1) kept) (through r (bit c) older)) (sym e) ∙ past_kept r (bit c) es kept older place m
 
-pub each_exact : (d : ℕ) (base cs : List ℕ) (kept : List Moment) (place : ℕ) → EachExact d base cs kept place
-each_exact d base cs kept place r es older e b m k l =
-    let c = get_or cs k 0 in
-    ap (span_then d c (take (place + 1) kept) (drop (place + 1) kept))
-    (ap (λ row. span_at row k) b ∙ row_at (λ c. through r (bit c) older) (λ c. kept_through r (bit c) older) cs k l)
-    ∙ taken d kept place r es older e m c
+pub each_exact : (d : ℕ) (base : List Case) (kept : List Moment) (place : ℕ) → EachExact d base kept place
+each_exact d base kept place r es older cs e b m k h =
+    ap (span_then d k.choice (take (place + 1) kept) (drop (place + 1) kept))
+    (in_row (λ c. through r (bit c) older) (λ c. kept_through r (bit c) older) cs k (subst (λ row. Contains row k) b h))
+    ∙ taken d kept place r es older e m k.choice
 
 full_allowed : (r : Rules) (c : ℕ) → Full r c → Allowed r c
 full_allowed r c h = record { there = h.there; few = omega (arith, h.many) }
@@ -69,17 +67,17 @@ module _ (d : ℕ) (kept : List Moment) (place : ℕ) (r : Rules) (es : List Eve
   abbrev before : ℕ → Span
   before c = through r (bit c) older
 
-  bounds_past : r.drift ≡ d → moments es ≡ onto kept older → (cs : List ℕ) → LeastAndGreatest (InSome past cs) (said_by taking None cs (row_of before cs))
+  bounds_past : r.drift ≡ d → moments es ≡ onto kept older → (cs : List ℕ) → LeastAndGreatest (InSome past cs) (said_by taking None (row_of before cs))
   bounds_past e m cs =
       let same : (c : ℕ) → taking c (before c) ≡ past c = taken d kept place r es older e m in
       bounds_same (InSome (λ c. taking c (before c)) cs) (InSome past cs) (in_same (λ c. taking c (before c)) past same cs) (in_same past (λ c. taking c (before c)) (λ c. sym (same c)) cs) _
       (bounds_all taking before (λ c. kept_through r (bit c) older) (λ c. meet_order (onward d (bit c) (take (place + 1) kept) (before c)) (backward d (bit c) (drop (place + 1) kept))) cs)
 
-pub said_exact : (d : ℕ) (base cs : List ℕ) (kept : List Moment) (place : ℕ) (said : Option (ℕ × ℕ)) → place < length kept → said ≡ said_by (λ c. span_then d c (take (place + 1) kept) (drop (place + 1) kept)) None cs base → SaidExact d base cs kept place said
-said_exact d base cs kept place said here is r es older e full b m =
+pub said_exact : (d : ℕ) (base : List Case) (kept : List Moment) (place : ℕ) (said : Option (ℕ × ℕ)) → place < length kept → said ≡ said_by (λ c. span_then d c (take (place + 1) kept) (drop (place + 1) kept)) None base → SaidExact d base kept place said
+said_exact d base kept place said here is r es older cs e full b m =
     let k = since kept place in
     let there : k < length es = omega (arith, length_moments es, ap length m, length_onto kept older) in
-    subst (LeastAndGreatest (WorldAt r es k)) (ap (said_by (λ c. span_then d c (take (place + 1) kept) (drop (place + 1) kept)) None cs) (sym b) ∙ sym is)
+    subst (LeastAndGreatest (WorldAt r es k)) (ap (said_by (λ c. span_then d c (take (place + 1) kept) (drop (place + 1) kept)) None) (sym b) ∙ sym is)
     (bounds_same (InSome (λ c. past_of r (bit c) k es) cs) (WorldAt r es k) (in_world r es cs k there full) (world_in r es cs k there full) _ (bounds_past d kept place r es older e m cs))
 
 pub said_never_widens : SaidNeverWidens

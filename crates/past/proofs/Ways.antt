@@ -1,6 +1,8 @@
 -- Kept moments after older ones: on through them, and back, as through the moments of a run.
-use Rattle.std.proofs.Common.{◌≡◌, ℕ, ◌+◌, ◌<◌, ◌≤◌, List, [], ◌∷◌, ◌++◌, length, get_or, take, drop, sym, refl, ap, ◌∙◌, ap₂, add-zero, arith, length-drop, take-append-drop}
-use Rattle.std.proofs.lemmas.List.{take_at, drop_at, drop_more, drop_all}
+use Rattle.std.proofs.Common.{◌≡◌, ℕ, ◌+◌, List, [], ◌∷◌, ◌++◌, fold, length, reverse, take, drop, sym, refl, ap, ◌∙◌, ap₂, add-zero, arith, length-drop, take-append-drop}
+use mathlib.Core.List.{reverse-cons}
+use Rattle.std.proofs.lemmas.List.{take_at, drop_at}
+use Rattle.std.proofs.lemmas.List.Sums.{fold-append}
 use Rattle.span.specs.declared.Span.{Span}
 use Rattle.span.specs.Span.{upto, ceiling, meet}
 use Rattle.span.specs.World.{Rules, Event, Faulty}
@@ -9,8 +11,7 @@ use Rattle.span.specs.Model as model
 use Rattle.span.specs.Past.{back_through, past_of}
 use Rattle.trail.specs.declared.Moment.{Moment}
 use Rattle.trail.specs.Trail.{moment_of, onto}
-use Rattle.trail.proofs.Walks.{blank}
-use Rattle.past.specs.Event.{on_to, back_from, onward, backward, since}
+use Rattle.past.specs.Event.{back_from, onward, backward, since}
 
 -- one part of the kept moments after another
 onto_append : (a b : List Moment) (o : List model.Moment) → onto (a ++ b) o ≡ onto b (onto a o)
@@ -36,15 +37,19 @@ drop_onto w o = ap (drop (length w)) (onto_front w [] o) ∙ drop_at (onto w [])
 
 -- on through kept moments is through the run with them
 through_onto : (r : Rules) (who : Faulty) (w : List Moment) (o : List model.Moment) → through r who (onto w o) ≡ onward r.drift who w (through r who o)
-unfolding onto through onward
+unfolding onto through
 through_onto r who [] o = refl
 through_onto r who (m ∷ w) o = through_onto r who w (moment_of m ∷ o)
 
+back_step : (d : ℕ) (who : Faulty) (m : Moment) (w : List Moment) → backward d who (m ∷ w) ≡ back_from d who m (backward d who w)
+back_step d who m w =
+    ap (fold (λ s m. back_from d who m s) (upto ceiling)) (reverse-cons m w) ∙ fold-append (λ s m. back_from d who m s) (upto ceiling) (reverse w) (m ∷ [])
+
 -- and back through them is back through the latest of its moments
 back_onto : (r : Rules) (who : Faulty) (w : List Moment) (o : List model.Moment) → back_through r who (onto w o) (upto ceiling) ≡ back_through r who o (backward r.drift who w)
-unfolding onto back_through backward
+unfolding onto back_through
 back_onto r who [] o = refl
-back_onto r who (m ∷ w) o = back_onto r who w (moment_of m ∷ o)
+back_onto r who (m ∷ w) o = back_onto r who w (moment_of m ∷ o) ∙ ap (back_through r who o) (sym (back_step r.drift who m w))
 
 nothing_on : (r : Rules) (who : Faulty) (b : Span) → back_through r who [] b ≡ b
 unfolding back_through
@@ -76,20 +81,3 @@ module _ (r : Rules) (who : Faulty) (es : List Event) (kept : List Moment) (olde
       (ap (through r who) first ∙ through_onto r who before older)
       (ap (λ ms. back_through r who ms (upto ceiling)) last ∙ back_onto r who after [] ∙ nothing_on r who _)
       )
-
--- a walk forth and a walk back: what is done, and what is left to do
-pub forth_more : (d : ℕ) (who : Faulty) (w : List Moment) (i : ℕ) (s : Span) → i < length w → onward d who (drop i w) s ≡ onward d who (drop (i + 1) w) (on_to d who (get_or w i blank) s)
-unfolding onward
-forth_more d who w i s h = ap (λ x. onward d who x s) (drop_more w i blank h)
-
-pub forth_end : (d : ℕ) (who : Faulty) (w : List Moment) (i : ℕ) (s : Span) → length w ≤ i → onward d who (drop i w) s ≡ s
-unfolding onward
-forth_end d who w i s h = ap (λ x. onward d who x s) (drop_all i w h)
-
-pub back_more : (d : ℕ) (who : Faulty) (w : List Moment) (i : ℕ) → i < length w → backward d who (drop i w) ≡ back_from d who (get_or w i blank) (backward d who (drop (i + 1) w))
-unfolding backward
-back_more d who w i h = ap (λ x. backward d who x) (drop_more w i blank h)
-
-pub back_end : (d : ℕ) (who : Faulty) (w : List Moment) (i : ℕ) → length w ≤ i → backward d who (drop i w) ≡ upto ceiling
-unfolding backward
-back_end d who w i h = ap (λ x. backward d who x) (drop_all i w h)

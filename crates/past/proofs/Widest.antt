@@ -1,26 +1,14 @@
 -- The least and the greatest over all spans of a row.
-use Rattle.std.proofs.Common.{◌≡◌, ℕ, zero, suc, ◌+◌, ◌*◌, ◌<◌, ◌≤◌, min, max, Bool, true, false, cond, T, leb, ◌⊎◌, List, [], ◌∷◌, length, get_or, drop, Some, None, Option, sym, refl, ap, ◌∙◌, subst, ap₂, inl, inr, ⊎_elim, arith}
-use Rattle.std.proofs.lemmas.List.{drop_more, drop_all}
+use Rattle.std.proofs.Common.{◌≡◌, ℕ, zero, suc, ◌<◌, ◌≤◌, min, max, Bool, true, false, cond, T, leb, ◌⊎◌, List, [], ◌∷◌, length, get_or, Some, None, Option, sym, refl, subst, inl, inr, ⊎_elim, arith}
 use Rattle.std.proofs.lemmas.Bool.{cases_lt}
 use Rattle.std.proofs.lemmas.Bool.Decides.{nat_tests}
 use Rattle.span.specs.declared.Span.{Span}
 use Rattle.span.specs.declared.Span.TheVariants.{Between, Empty}
 use Rattle.span.specs.Span.{is_in, span, meet}
 use Rattle.span.proofs.Steps.{of_ends, in_ends}
-use Rattle.choice.specs.Row.{span_at, row_of}
+use Rattle.choice.specs.Row.{row_of}
 use Rattle.choice.proofs.Rows.{Kept}
 use Rattle.past.specs.Event.{wider, said_by, LeastAndGreatest, Within}
-
--- one choice after another
-pub said_more : (f : ℕ → Span → Span) (said : Option (ℕ × ℕ)) (k : ℕ) (cs row : List ℕ) → k < length cs → 2 * k + 1 < length row → said_by f said (drop k cs) (drop (2 * k) row) ≡ said_by f (wider said (f (get_or cs k 0) (span_at row k))) (drop (k + 1) cs) (drop (2 * (k + 1)) row)
-unfolding said_by
-said_more f said k cs row l h =
-    ap₂ (said_by f said) (drop_more cs k 0 l) (drop_more row (2 * k) 0 (omega arith) ∙ ap (λ r. get_or row (2 * k) 0 ∷ r) (drop_more row (2 * k + 1) 0 h))
-    ∙ ap (λ n. said_by f (wider said (f (get_or cs k 0) (span_at row k))) (drop (k + 1) cs) (drop n row)) (omega arith)
-
-pub said_end : (f : ℕ → Span → Span) (said : Option (ℕ × ℕ)) (k : ℕ) (cs row : List ℕ) → length cs ≤ k → said_by f said (drop k cs) row ≡ said
-unfolding said_by
-said_end f said k cs row h = ap (λ x. said_by f said x row) (drop_all k cs h)
 
 -- a span that is kept by its ends has them in order
 abbrev pub InOrder : Span → Type 0
@@ -80,26 +68,25 @@ bounds_wider P (Some e) (Between lo hi) o b = (
 abbrev pub InSome : (ℕ → Span) → List ℕ → ℕ → Type 0
 InSome g cs t = (k : ℕ) × (k < length cs) × T (is_in t (g (get_or cs k 0)))
 
-bounds_row : (P : ℕ → Type 0) (f : ℕ → Span → Span) (g : ℕ → Span) → ((c : ℕ) → Kept (g c)) → ((c : ℕ) → InOrder (f c (g c))) → (cs : List ℕ) (said : Option (ℕ × ℕ)) → LeastAndGreatest P said → LeastAndGreatest (λ t. P t ⊎ InSome (λ c. f c (g c)) cs t) (said_by f said cs (row_of g cs))
-unfolding said_by row_of
+bounds_row : (P : ℕ → Type 0) (f : ℕ → Span → Span) (g : ℕ → Span) → ((c : ℕ) → Kept (g c)) → ((c : ℕ) → InOrder (f c (g c))) → (cs : List ℕ) (said : Option (ℕ × ℕ)) → LeastAndGreatest P said → LeastAndGreatest (λ t. P t ⊎ InSome (λ c. f c (g c)) cs t) (said_by f said (row_of g cs))
 bounds_row P f g kept order [] said b = bounds_same P (λ t. P t ⊎ InSome (λ c. f c (g c)) [] t) (λ t p. inl p) (λ t. ⊎_elim (λ p. p) (λ i. let l = i.1 in absurd (omega arith))) said b
 bounds_row P f g kept order (c ∷ cs) said b =
     let h : ℕ → Span = λ c. f c (g c) in
     let one : LeastAndGreatest (Or P (h c)) (wider said (h c)) = bounds_wider P said (h c) (order c) b in
-    let all : LeastAndGreatest (λ t. Or P (h c) t ⊎ InSome h cs t) (said_by f (wider said (h c)) cs (row_of g cs)) = bounds_row (Or P (h c)) f g kept order cs (wider said (h c)) one in
-    let joined : LeastAndGreatest (λ t. P t ⊎ InSome h (c ∷ cs) t) (said_by f (wider said (h c)) cs (row_of g cs)) =
+    let all : LeastAndGreatest (λ t. Or P (h c) t ⊎ InSome h cs t) (said_by f (wider said (h c)) (row_of g cs)) = bounds_row (Or P (h c)) f g kept order cs (wider said (h c)) one in
+    let joined : LeastAndGreatest (λ t. P t ⊎ InSome h (c ∷ cs) t) (said_by f (wider said (h c)) (row_of g cs)) =
     bounds_same (λ t. Or P (h c) t ⊎ InSome h cs t) (λ t. P t ⊎ InSome h (c ∷ cs) t)
     (λ t. ⊎_elim (⊎_elim (λ p. inl p) (λ i. inr (0, omega arith, i))) (λ i. inr (suc i.0, omega (arith, i.1), i.2)))
     (λ t. ⊎_elim (λ p. inl (inl p)) (λ i. back t i.0 i.1 i.2))
     _ all in
-    subst (λ s. LeastAndGreatest (λ t. P t ⊎ InSome h (c ∷ cs) t) (said_by f (wider said (f c s)) cs (row_of g cs))) (sym (kept c)) joined
+    subst (λ s. LeastAndGreatest (λ t. P t ⊎ InSome h (c ∷ cs) t) (said_by f (wider said (f c s)) (row_of g cs))) (sym (kept c)) joined
   where
     back : (t k : ℕ) → k < length (c ∷ cs) → T (is_in t (f (get_or (c ∷ cs) k 0) (g (get_or (c ∷ cs) k 0)))) → Or P (f c (g c)) t ⊎ InSome (λ c. f c (g c)) cs t
     back t zero l i = inl (inr i)
     back t (suc k) l i = inr (k, omega arith, i)
 
 -- the least and the greatest over all choices are those of all times that some choice has
-pub bounds_all : (f : ℕ → Span → Span) (g : ℕ → Span) → ((c : ℕ) → Kept (g c)) → ((c : ℕ) → InOrder (f c (g c))) → (cs : List ℕ) → LeastAndGreatest (InSome (λ c. f c (g c)) cs) (said_by f None cs (row_of g cs))
+pub bounds_all : (f : ℕ → Span → Span) (g : ℕ → Span) → ((c : ℕ) → Kept (g c)) → ((c : ℕ) → InOrder (f c (g c))) → (cs : List ℕ) → LeastAndGreatest (InSome (λ c. f c (g c)) cs) (said_by f None (row_of g cs))
 bounds_all f g kept order cs =
     bounds_same (λ t. ⊥ ⊎ InSome (λ c. f c (g c)) cs t) (InSome (λ c. f c (g c)) cs) (λ t. ⊎_elim (λ p. absurd p) (λ i. i)) (λ t i. inr i) _
     (bounds_row (λ t. ⊥) f g kept order cs None (λ t p. p))

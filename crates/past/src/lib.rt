@@ -1,70 +1,69 @@
 // What is said of a past event: what time it can have been at a kept moment, by all that is known of the moments before it and after it.
 #![tactic(auto)]
 
-ghost use Rattle.std.specs.Prelude.{◌≡◌, ◌+◌, ◌*◌, ◌<◌, length, take, drop, None};
-ghost use Rattle.span.specs.Model.{cut_all};
+ghost use Rattle.std.specs.Prelude.{◌≡◌, ◌+◌, ◌<◌, length, take, drop, None};
 ghost use Rattle.span.specs.Past.{KnownPastExact};
 ghost use Rattle.choice.specs.Choice.{bit};
 ghost use Rattle.choice.specs.Past.{PastExactOverAll, PastNeverWidens};
-ghost use Rattle.trail.specs.Trail.{claims_of};
-ghost use Rattle.past.specs.Event.{on_to, back_from, onward, backward, span_then, wider, said_by, EachExact, SaidExact, SaidNeverWidens};
+ghost use Rattle.choice.specs.Row.{span_in};
+ghost use Rattle.past.specs.Event.{back_from, backward, on_to, onward, said_by, span_then, wider, EachExact, SaidExact, SaidNeverWidens};
 
-use choice::row::{Claim, cut, read};
+use choice::case::Case;
 use span::rate::Drift;
 use span::{CEILING, Span};
-use trail::Moment;
+use trail::{Moment, cut_by};
 
-// The span of a choice, cut by what is claimed, if something is.
-fn cut_by(span: Span, choice: u16, claim: Option<Claim>) -> Span
-    ensures value { result ≡ cut_all (bit choice) (claims_of claim) span }
-{
-    match claim {
-        Some(claim) => cut(span, choice, claim),
-        None => span,
+// A choice of faulty servers, and the local clock's drift: by them a span goes from moment to moment.
+#[derive(Clone, Copy)]
+struct Course {
+    choice: u16,
+    drift: Drift,
+}
+
+impl Course {
+    // On to a moment from the one before it.
+    fn on_to(self, span: Span, moment: Moment) -> Span
+        ensures value { result ≡ on_to self.drift.millionths (bit self.choice) moment span }
+    {
+        cut_by(
+            span.later(self.drift, moment.ticks),
+            self.choice,
+            moment.claim,
+        )
     }
-}
 
-// On to a moment from the one before it.
-fn on_to(span: Span, choice: u16, drift: Drift, moment: Moment) -> Span
-    ensures value { result ≡ on_to drift.millionths (bit choice) moment span }
-{
-    cut_by(span.later(drift, moment.ticks), choice, moment.claim)
-}
-
-// Back from a moment to the one before it.
-fn back_from(span: Span, choice: u16, drift: Drift, moment: Moment) -> Span
-    ensures value { result ≡ back_from drift.millionths (bit choice) moment span }
-{
-    cut_by(span, choice, moment.claim).earlier(drift, moment.ticks)
-}
-
-// On from a span through moments, the oldest first.
-fn forth(span: Span, choice: u16, drift: Drift, moments: &[Moment]) -> Span
-    ensures value { result ≡ onward drift.millionths (bit choice) moments.now span }
-{
-    let mut reached = span;
-    for moment in moments {
-        reached = on_to(reached, choice, drift, *moment);
+    // Back from a moment to the one before it.
+    fn back_from(self, span: Span, moment: Moment) -> Span
+        ensures value { result ≡ back_from self.drift.millionths (bit self.choice) moment span }
+    {
+        cut_by(span, self.choice, moment.claim).earlier(self.drift, moment.ticks)
     }
-    reached
-}
 
-// Back from any time now through moments, the latest first, to the one before them.
-fn back(choice: u16, drift: Drift, moments: &[Moment]) -> Span
-    ensures value { result ≡ backward drift.millionths (bit choice) moments.now }
-{
-    let mut reached = Span::upto(CEILING);
-    for i in (0..moments.len()).rev() {
-        reached = back_from(reached, choice, drift, moments[i]);
+    // On from a span through moments, the oldest first.
+    fn forth(self, span: Span, moments: &[Moment]) -> Span
+        ensures value { result ≡ onward self.drift.millionths (bit self.choice) moments.now span }
+    {
+        moments
+            .iter()
+            .fold(span, |reached, moment| self.on_to(reached, *moment))
     }
-    reached
-}
 
-// The span of a choice at the last of the moments `upto`, which begin after `base`; `after` are the moments since.
-fn span_then(base: Span, choice: u16, drift: Drift, upto: &[Moment], after: &[Moment]) -> Span
-    ensures value { result ≡ span_then drift.millionths choice upto.now after.now base }
-{
-    forth(base, choice, drift, upto).meet(back(choice, drift, after))
+    // Back from any time now through moments, the latest first, to the one before them.
+    fn back(self, moments: &[Moment]) -> Span
+        ensures value { result ≡ backward self.drift.millionths (bit self.choice) moments.now }
+    {
+        moments.iter().rev().fold(
+            Span::upto(CEILING),
+            |reached, moment| self.back_from(reached, *moment),
+        )
+    }
+
+    // The span at the last of the moments `upto`, which begin after `base`; `after` are the moments since.
+    fn span_then(self, base: Span, upto: &[Moment], after: &[Moment]) -> Span
+        ensures value { result ≡ span_then self.drift.millionths self.choice upto.now after.now base }
+    {
+        self.forth(base, upto).meet(self.back(after))
+    }
 }
 
 // The least and the greatest said so far, widened by the times of a span.
@@ -80,33 +79,43 @@ fn widened(said: Option<(u64, u64)>, span: Span) -> Option<(u64, u64)>
     }
 }
 
-// The least and the greatest time that it can have been at the moment at a place, over all choices; nothing where no choice leaves any. `base` has the spans before all of the moments.
-pub fn said_of(
-    base: &[u64],
-    choices: &[u16],
+// The same by the case of one choice more.
+fn widened_by(
+    said: Option<(u64, u64)>,
+    case: Case,
     drift: Drift,
-    moments: &[Moment],
-    place: usize,
+    upto: &[Moment],
+    after: &[Moment],
 ) -> Option<(u64, u64)>
-    requires paired { length base.now ≡ 2 * length choices.now }
+    ensures value { result ≡ wider said (span_then drift.millionths case.choice upto.now after.now (span_in case)) }
+{
+    let choice = case.choice;
+    let course = Course { choice, drift };
+    widened(said, course.span_then(case.span(), upto, after))
+}
+
+// The least and the greatest over all cases, at the last of the moments `upto`; `after` are the moments since.
+fn said_by(base: &[Case], drift: Drift, upto: &[Moment], after: &[Moment]) -> Option<(u64, u64)>
+    ensures value { result ≡ said_by (λ c. span_then drift.millionths c upto.now after.now) None base.now }
+{
+    base.iter().fold(None, |said, case| {
+        widened_by(said, *case, drift, upto, after)
+    })
+}
+
+// The least and the greatest time that it can have been at the moment at a place, over all choices; nothing where no choice leaves any. `base` has the spans before all of the moments.
+pub fn said_of(base: &[Case], drift: Drift, moments: &[Moment], place: usize) -> Option<(u64, u64)>
     requires there { place < length moments.now }
-    ensures value { result ≡ said_by (λ c. span_then drift.millionths c (take (place + 1) moments.now) (drop (place + 1) moments.now)) None choices.now base.now }
-    ensures each { EachExact drift.millionths base.now choices.now moments.now place }
-    ensures exact { SaidExact drift.millionths base.now choices.now moments.now place result }
+    ensures value { result ≡ said_by (λ c. span_then drift.millionths c (take (place + 1) moments.now) (drop (place + 1) moments.now)) None base.now }
+    ensures each { EachExact drift.millionths base.now moments.now place }
+    ensures exact { SaidExact drift.millionths base.now moments.now place result }
     ensures known { KnownPastExact }
     ensures whole { PastExactOverAll }
     ensures never_widens { PastNeverWidens }
     ensures narrows { SaidNeverWidens }
 {
     let (upto, after) = moments.split_at(place + 1);
-    let mut said = None;
-    for k in 0..choices.len() {
-        said = widened(
-            said,
-            span_then(read(base, k), choices[k], drift, upto, after),
-        );
-    }
-    said
+    said_by(base, drift, upto, after)
 }
 
 #[cfg(test)]

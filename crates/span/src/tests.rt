@@ -4,10 +4,7 @@ use crate::{CEILING, Span};
 use std::test::Fail;
 
 fn drift(millionths: u64) -> Result<Drift, Fail> {
-    match Drift::new(millionths) {
-        Some(drift) => Ok(drift),
-        None => Err(Fail::new("no drift")),
-    }
+    Ok(Drift::new(millionths).ok_or("no drift")?)
 }
 
 #[test]
