@@ -3,7 +3,7 @@ use Rattle.std.proofs.Common.{◌≡◌, ℕ, suc, ◌+◌, ◌-◌, ◌<◌, Li
 use Rattle.std.proofs.lemmas.List.{set_split, drop_more, take-append-drop}
 use Rattle.span.specs.Model as model
 use Rattle.span.specs.Model.{put}
-use Rattle.choice.specs.declared.row.Claim.TheVariants.{AtMost}
+use Rattle.choice.specs.declared.case.Claim.TheVariants.{AtMost}
 use Rattle.trail.specs.declared.Moment.{Moment}
 use Rattle.trail.specs.Trail.{claims_of, moment_of, onto}
 use Rattle.window.specs.Ring.{claimed, nothing}

@@ -1,6 +1,6 @@
 -- The moments that a ring keeps, the oldest first.
 use Rattle.std.specs.Prelude.{false, List, drop, Some, None, vec_items}
-use Rattle.choice.specs.declared.row.Claim.{Claim}
+use Rattle.choice.specs.declared.case.Claim.{Claim}
 use Rattle.trail.specs.declared.Moment.{Moment}
 use Rattle.window.specs.declared.ring.Ring.{Ring}
 

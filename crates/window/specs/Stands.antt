@@ -15,13 +15,15 @@ use Rattle.window.specs.Steps.{mark_at, place_of}
 pub record Parts (r : Rules) (ms : List model.Moment) (v : View) : Type 0 where
   -- the moments that were forgotten, the latest first
   pub forgotten : List model.Moment
+  -- all choices of as many faulty servers as may be
+  pub choices : List ℕ
   pub servers : r.servers ≡ v.servers
   pub drift : r.drift ≡ v.drift
-  pub choices : AllFull r v.choices
+  pub full : AllFull r choices
   pub whole : ms ≡ onto v.kept forgotten
-  pub base : v.base ≡ row_through r forgotten v.choices
-  pub mark : v.mark ≡ row_through r (onto (take (mark_at v) v.kept) forgotten) v.choices
-  pub here : v.here ≡ row_through r ms v.choices
+  pub base : v.base ≡ row_through r forgotten choices
+  pub mark : v.mark ≡ row_through r (onto (take (mark_at v) v.kept) forgotten) choices
+  pub here : v.here ≡ row_through r ms choices
 
 -- the rules of a new beginning, at which true time is anything up to the ceiling
 abbrev pub from_ceiling : Rules → Rules

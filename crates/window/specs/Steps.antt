@@ -1,11 +1,13 @@
 -- What is done with a window, one step at a time.
-use Rattle.std.specs.Prelude.{ℕ, suc, ◌+◌, ◌-◌, Bool, cond, List, [], ◌∷◌, ◌++◌, length, take, drop, None, Option, ◌==◌, nat_lt, slice_index_or, slice_set}
+use Rattle.std.specs.Prelude.{ℕ, ◌+◌, ◌-◌, Bool, cond, List, [], ◌∷◌, ◌++◌, length, take, drop, None, Option, ◌==◌, nat_lt, slice_index_or, slice_set}
+use Rattle.std.specs.List.{prefix_len}
 use Rattle.past.specs.Event.{said_by, span_then}
 use Rattle.span.specs.Span.{ceiling, upto}
-use Rattle.choice.specs.declared.row.Claim.{Claim}
+use Rattle.choice.specs.declared.case.Case.{Case}
+use Rattle.choice.specs.declared.case.Claim.{Claim}
 use Rattle.choice.specs.Row.{over_row, row_of}
 use Rattle.trail.specs.declared.Moment.{Moment}
-use Rattle.trail.specs.Trail.{step_at, walked}
+use Rattle.trail.specs.Trail.{stepped, walked}
 use Rattle.window.specs.Ring.{claimed, nothing}
 use Rattle.window.specs.View.{View}
 
@@ -14,7 +16,6 @@ abbrev pub begun : ℕ → ℕ → ℕ → List ℕ → View
 begun servers drift latest cs = record {
   servers = servers;
   drift = drift;
-  choices = cs;
   base = row_of (λ c. upto latest) cs;
   mark = row_of (λ c. upto latest) cs;
   here = row_of (λ c. upto latest) cs;
@@ -31,10 +32,9 @@ abbrev pub made_by : Moment → View → View
 made_by m v = record {
   servers = v.servers;
   drift = v.drift;
-  choices = v.choices;
   base = v.base;
   mark = v.mark;
-  here = over_row (step_at v.drift v.choices m) 0 v.here;
+  here = over_row (stepped v.drift m) v.here;
   kept = v.kept ++ m ∷ [];
   lag = v.lag + 1;
 }
@@ -44,11 +44,10 @@ abbrev pub forgot : ℕ → View → View
 forgot k v = record {
   servers = v.servers;
   drift = v.drift;
-  choices = v.choices;
   mark = v.mark;
   here = v.here;
   lag = v.lag;
-  base = walked v.drift v.choices (take k v.kept) v.base;
+  base = walked v.drift (take k v.kept) v.base;
   kept = drop k v.kept;
 }
 
@@ -57,7 +56,6 @@ abbrev pub marked_here : View → View
 marked_here v = record {
   servers = v.servers;
   drift = v.drift;
-  choices = v.choices;
   base = v.base;
   here = v.here;
   kept = v.kept;
@@ -70,11 +68,10 @@ abbrev pub marked_on : ℕ → View → View
 marked_on k v = record {
   servers = v.servers;
   drift = v.drift;
-  choices = v.choices;
   base = v.base;
   here = v.here;
   kept = v.kept;
-  mark = walked v.drift v.choices (take (v.lag - k) (drop (mark_at v) v.kept)) v.mark;
+  mark = walked v.drift (take (v.lag - k) (drop (mark_at v) v.kept)) v.mark;
   lag = k;
 }
 
@@ -91,12 +88,11 @@ abbrev pub wound : View → View
 wound v = record {
   servers = v.servers;
   drift = v.drift;
-  choices = v.choices;
   base = v.base;
   mark = v.mark;
   lag = v.lag;
   kept = v.kept;
-  here = walked v.drift v.choices (take v.lag (drop (mark_at v) v.kept)) v.mark;
+  here = walked v.drift (take v.lag (drop (mark_at v) v.kept)) v.mark;
 }
 
 -- a claim is put down at the moment that has so many after it, and the spans now are those from the mark through all moments since
@@ -107,7 +103,6 @@ abbrev pub answered : ℕ → Claim → View → View
 answered since c v = wound (record {
   servers = v.servers;
   drift = v.drift;
-  choices = v.choices;
   base = v.base;
   mark = v.mark;
   here = v.here;
@@ -116,16 +111,26 @@ answered since c v = wound (record {
 })
 
 -- nothing is kept, and true time is anything up to the ceiling
+abbrev pub forgets_all : List Case → List Case
+forgets_all row = over_row (λ c s. upto ceiling) row
+
 abbrev pub anew : View → View
-anew v = begun v.servers v.drift ceiling v.choices
+anew v = record {
+  servers = v.servers;
+  drift = v.drift;
+  base = forgets_all v.base;
+  mark = forgets_all v.mark;
+  here = forgets_all v.here;
+  kept = [];
+  lag = 0;
+}
 
 -- a moment is kept for two hours: how many of the first moments are older
 abbrev pub two_hours : ℕ
 two_hours = 7200000000
 
-unfoldable pub older : ℕ → List Moment → ℕ
-older count [] = 0
-older count (m ∷ ms) = cond (nat_lt two_hours (count - m.count)) (suc (older count ms)) 0
+abbrev pub older : ℕ → List Moment → ℕ
+older count ms = prefix_len (λ m. nat_lt two_hours (count - m.count)) ms
 
 -- those before the mark that are older than two hours are forgotten
 abbrev pub aged : ℕ → View → View
@@ -141,4 +146,4 @@ roomy count v = cond (is_full (aged count v)) (forgot 1 (aged count v)) (aged co
 
 -- what is said of the kept moment at a place
 abbrev pub said_at : ℕ → View → Option (ℕ × ℕ)
-said_at place v = said_by (λ c. span_then v.drift c (take (place + 1) v.kept) (drop (place + 1) v.kept)) None v.choices v.base
+said_at place v = said_by (λ c. span_then v.drift c (take (place + 1) v.kept) (drop (place + 1) v.kept)) None v.base

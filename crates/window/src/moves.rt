@@ -1,17 +1,16 @@
 // What is done with a window.
-ghost use Rattle.std.specs.Prelude.{◌≡◌, ◌+◌, ◌*◌, ◌^◌, ◌<◌, ◌≤◌, length, IfOk, vec_len};
-ghost use Rattle.span.specs.Span.{upto};
+ghost use Rattle.std.specs.Prelude.{◌≡◌, ◌+◌, ◌^◌, ◌<◌, ◌≤◌, length, IfOk};
 ghost use Rattle.choice.specs.Choice.{chosen};
-ghost use Rattle.choice.specs.Row.{row_of};
-ghost use Rattle.choice.specs.declared.row.Claim.TheVariants.{AtMost};
+ghost use Rattle.choice.specs.declared.case.Claim.TheVariants.{AtMost};
 ghost use Rattle.window.specs.View.{view_of};
-ghost use Rattle.window.specs.Steps.{aged, anew, answered, begun, forgot, is_full, made_by, marked_here, marked_on, older, roomy, settled, wound};
+ghost use Rattle.window.specs.Steps.{aged, anew, answered, begun, forgets_all, forgot, is_full, made_by, marked_here, marked_on, older, roomy, settled, wound};
 ghost use Rattle.window.specs.Stands.{Adds, Begins, Bounds, Keeps, Restarts};
 
 use crate::Window;
 use crate::ring::{MOST, Ring};
-use choice::choices::choices;
-use choice::row::{Claim, fill_row};
+use choice::case::{Case, Claim};
+use choice::row::{fill_row, new_row};
+use choice::servers::Servers;
 use span::rate::Drift;
 use span::{CEILING, Span};
 use std::alloc::{AllocError, Global};
@@ -25,46 +24,38 @@ fn older(moments: &[Moment], count: u64) -> usize
     ensures value { result ≡ older count moments.now }
     ensures within { result ≤ length moments.now }
 {
-    for (i, moment) in moments.iter().enumerate() {
-        if count.saturating_sub(moment.count) <= TWO_HOURS {
-            return i;
-        }
-    }
-    moments.len()
+    moments
+        .iter()
+        .take_while(|moment| count.saturating_sub(moment.count) > TWO_HOURS)
+        .count()
 }
 
-// A row in which every choice's span is from 0 to the latest, but not above the ceiling.
-fn beginning(heap: Global, choices: &[u16], latest: u64) -> Result<Vec<u64>, AllocError>
-    ensures row { IfOk result (λ v. v.items ≡ row_of (λ c. upto latest) choices.now) }
-    ensures len { IfOk result (λ v. vec_len v ≡ 2 * length choices.now) }
+// In every case of a row true time is anything up to the ceiling.
+fn forget_all(row: &mut [Case])
+    ensures after { row.new ≡ forgets_all row.old }
 {
-    let mut row = vec![in heap; 0; 2 * choices.len()]?;
-    fill_row(&mut row, Span::upto(latest));
-    Ok(row)
+    fill_row(row, Span::upto(CEILING));
 }
 
 impl Window {
     // A window of a run that begins with true time anything up to the latest.
     pub fn new(
-        heap: Global,
-        servers: u8,
-        faulty: u8,
+        alloc: Global,
+        servers: Servers,
         drift: Drift,
         latest: u64,
     ) -> Result<Window, AllocError>
-        requires { servers ≤ 10 }
-        ensures value { IfOk result (λ w. view_of w ≡ begun servers drift.millionths latest (chosen faulty (2 ^ servers))) }
-        ensures begins { IfOk result (λ w. Begins servers faulty drift.millionths latest (view_of w)) }
+        ensures value { IfOk result (λ w. view_of w ≡ begun servers.many drift.millionths latest (chosen servers.faulty (2 ^ servers.many))) }
+        ensures begins { IfOk result (λ w. Begins servers.many servers.faulty drift.millionths latest (view_of w)) }
     {
-        let choices = choices(heap, servers, faulty)?;
-        let base = beginning(heap, &choices, latest)?;
-        let mark = beginning(heap, &choices, latest)?;
-        let here = beginning(heap, &choices, latest)?;
-        let ring = Ring::new(heap)?;
+        let ever = Span::upto(latest);
+        let base = new_row(alloc, servers, ever)?;
+        let mark = new_row(alloc, servers, ever)?;
+        let here = new_row(alloc, servers, ever)?;
+        let ring = Ring::new(alloc)?;
         Ok(Window {
             servers,
             drift,
-            choices,
             base,
             mark,
             here,
@@ -79,7 +70,7 @@ impl Window {
         ensures value { view_of self.new ≡ made_by moment (view_of self.old) }
         ensures adds { Adds moment (view_of self.old) (view_of self.new) }
     {
-        step_row(&mut self.here, &self.choices, self.drift, moment);
+        step_row(&mut self.here, self.drift, moment);
         self.ring.push(moment);
         self.lag += 1;
     }
@@ -89,12 +80,7 @@ impl Window {
         requires { many + self.old.lag ≤ length (view_of self.old).kept }
         ensures value { view_of self.new ≡ forgot many (view_of self.old) }
     {
-        walk_row(
-            &mut self.base,
-            &self.choices,
-            self.drift,
-            &self.ring.all()[0..many],
-        );
+        walk_row(&mut self.base, self.drift, &self.ring.all()[0..many]);
         self.ring.forget(many);
     }
 
@@ -139,7 +125,6 @@ impl Window {
         let many = self.ring.len();
         walk_row(
             &mut self.mark,
-            &self.choices,
             self.drift,
             &self.ring.all()[many - self.lag..many - since],
         );
@@ -167,7 +152,6 @@ impl Window {
         let many = self.ring.len();
         walk_row(
             &mut self.here,
-            &self.choices,
             self.drift,
             &self.ring.all()[many - self.lag..many],
         );
@@ -189,9 +173,9 @@ impl Window {
         ensures value { view_of self.new ≡ anew (view_of self.old) }
         ensures restarts { Restarts (view_of self.old) (view_of self.new) }
     {
-        fill_row(&mut self.base, Span::upto(CEILING));
-        fill_row(&mut self.mark, Span::upto(CEILING));
-        fill_row(&mut self.here, Span::upto(CEILING));
+        forget_all(&mut self.base);
+        forget_all(&mut self.mark);
+        forget_all(&mut self.here);
         self.ring.clear();
         self.lag = 0;
     }

@@ -1,5 +1,5 @@
 // What is read off a window.
-ghost use Rattle.std.specs.Prelude.{◌≡◌, ℕ, ◌<◌, ◌≤◌, length, take, vec_len};
+ghost use Rattle.std.specs.Prelude.{◌≡◌, ℕ, ◌<◌, ◌≤◌, length, vec_capacity};
 ghost use Rattle.span.specs.Span.{is_in};
 ghost use Rattle.choice.specs.Choice.{choice_of};
 ghost use Rattle.choice.specs.Row.{any_span, has_times, named_by};
@@ -25,9 +25,9 @@ impl Window {
 
     // How many choices there are.
     pub fn many(&self) -> usize
-        ensures value { result ≡ length (view_of self.now).choices }
+        ensures value { result ≡ length (view_of self.now).here }
     {
-        self.choices.len()
+        self.here.len()
     }
 
     // Whether some choice has a span now.
@@ -40,36 +40,30 @@ impl Window {
 
     // The named servers, as bits of a number.
     pub fn named(&self) -> u16
-        ensures value { result ≡ choice_of (λ v. named_by v (view_of self.now).choices (view_of self.now).here) (view_of self.now).servers }
-        ensures exact { NamesExact (view_of self.now).servers (view_of self.now).choices (view_of self.now).here result }
+        ensures value { result ≡ choice_of (λ v. named_by v (view_of self.now).here) (view_of self.now).servers }
+        ensures exact { NamesExact (view_of self.now).servers (view_of self.now).here result }
     {
-        named(&self.here, &self.choices, self.servers)
+        named(&self.here, self.servers.many())
     }
 
     // The least and the greatest time that it can have been at the kept moment at a place, by all that is known now.
     pub fn said_of(&self, place: usize) -> Option<(u64, u64)>
         requires { place < length (view_of self.now).kept }
         ensures value { result ≡ said_at place (view_of self.now) }
-        ensures exact { SaidExact (view_of self.now).drift (view_of self.now).base (view_of self.now).choices (view_of self.now).kept place result }
+        ensures exact { SaidExact (view_of self.now).drift (view_of self.now).base (view_of self.now).kept place result }
         ensures narrows { SaidNeverWidens }
     {
-        said_of(
-            &self.base,
-            &self.choices,
-            self.drift,
-            self.ring.all(),
-            place,
-        )
+        said_of(&self.base, self.drift, self.ring.all(), place)
     }
 
-    // What may be now, as runs in the front of the room: says how many.
-    pub fn union(&self, room: &mut [Run]) -> usize
-        requires { length (view_of self.now).choices ≤ length room.old }
-        ensures apart { Apart 0 (take result room.new) }
-        ensures same { (t : ℕ) → in_runs t (take result room.new) ≡ any_span (is_in t) (view_of self.now).here }
-        ensures exact { RunsExact (view_of self.now).here (take result room.new) }
-        ensures few { result ≤ length (view_of self.now).choices }
+    // What may be now, as runs. It allocates nothing: there is room for a run of each choice.
+    pub fn union(&self, runs: &mut Vec<Run>)
+        requires { length (view_of self.now).here ≤ vec_capacity runs.old }
+        ensures apart { Apart 0 runs.new.items }
+        ensures same { (t : ℕ) → in_runs t runs.new.items ≡ any_span (is_in t) (view_of self.now).here }
+        ensures exact { RunsExact (view_of self.now).here runs.new.items }
+        ensures room { vec_capacity runs.new ≡ vec_capacity runs.old }
     {
-        union(&self.here, room)
+        union(&self.here, runs);
     }
 }

@@ -3,7 +3,7 @@ ghost use Rattle.std.specs.Prelude.{◌≡◌, ◌+◌, ◌<◌, ◌≤◌, [], 
 ghost use Rattle.window.specs.Ring.{claimed, kept_in, nothing};
 
 use super::{MOST, Ring};
-use choice::row::Claim;
+use choice::case::Claim;
 use std::alloc::{AllocError, Global};
 use trail::Moment;
 
@@ -17,10 +17,10 @@ fn put_claim(moments: &mut [Moment], place: usize, claim: Claim)
 
 impl Ring {
     // None yet.
-    pub fn new(heap: Global) -> Result<Ring, AllocError>
+    pub fn new(alloc: Global) -> Result<Ring, AllocError>
         ensures kept { IfOk result (λ ring. kept_in ring ≡ []) }
     {
-        let moments = Vec::with_capacity(heap, 2 * MOST)?;
+        let moments = Vec::with_capacity(alloc, 2 * MOST)?;
         Ok(Ring { moments, start: 0 })
     }
 
