@@ -8,7 +8,9 @@ use Rattle.choice.specs.Stands.{Stands}
 use Rattle.script.specs.declared.Settings.{Settings}
 use Rattle.script.specs.declared.Word.{Word}
 use Rattle.ledger.specs.Ledger.{asks, hears, Says, Hears}
-use Rattle.play.specs.Scene.{Played, Same, latest, least_of, greatest_of, hand_heard}
+use Rattle.hand.specs.Hand.{sound_in}
+use Rattle.play.specs.declared.scene.Moment.{Moment}
+use Rattle.play.specs.Scene.{Played, Same, latest, least_of, greatest_of, hand_heard, said_of, width_of}
 
 -- those who have lied
 abbrev pub liars_of : List Bool → Faulty
@@ -40,6 +42,16 @@ pub record Plays (r : Rules) (es : List Event) (ts : List ℕ) (p : Played) : Ty
 -- the named servers are just those that are faulty in every world of the run
 abbrev pub NamesAll : Played → ℕ → Type 0
 NamesAll p set = (r : Rules) (es : List Event) (ts : List ℕ) → Plays r es ts p → (v : ℕ) → (v < p.servers → Decides (bit set v) (FaultyInAll r es v)) × (bit set v ≡ true → v < p.servers)
+
+-- what is shown of a played world: its count and true time, whether that is said, how wide what is said is, who is named, and the hand and whether its time may be
+pub record Shown (p : Played) (m : Moment) : Type 0 where
+  pub count : m.count ≡ p.count
+  pub truth : m.truth ≡ p.truth
+  pub said : m.said ≡ said_of p
+  pub width : m.width ≡ width_of p
+  pub named : NamesAll p m.named
+  pub hand : m.hand ≡ p.hand.time
+  pub sound : m.sound ≡ sound_in p.runs p.hand.time
 
 -- the moments of a word that was asked for and heard
 abbrev pub heard_of : Word → List Event

@@ -87,7 +87,7 @@ abbrev pub lie_fault : Played → Word → Option Fault
 lie_fault p w = first (word_fault p w) (unless (may_lie p w.server) TooManyLie)
 
 -- an answer is the fault, if there is one
-abbrev pub Answers : Option Fault → Result (Unit {0}) Fault → Type 0
+abbrev pub Answers : {X : Type 0} → Option Fault → Result X Fault → Type 0
 Answers f r = MatchResult r (λ _. f ≡ None) (λ e. f ≡ Some e)
 
 -- who is there, and the drift, stay; and so does who lied

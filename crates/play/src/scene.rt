@@ -3,9 +3,8 @@ ghost use Rattle.std.specs.Prelude.{◌≡◌, ℕ, ◌^◌, ◌<◌, ◌≤◌,
 ghost use Rattle.span.specs.World.{Rules, Event};
 ghost use Rattle.choice.specs.Runs.{bounds_of};
 ghost use Rattle.ledger.specs.Ledger.{shows};
-ghost use Rattle.hand.specs.Hand.{sound_in};
-ghost use Rattle.play.specs.Scene.{view_of, in_range, Answers, pass_fault, Passed, word_fault, reply_fault, lie_fault, NotBegun, SameLiars, Stayed, Lied, said_of, wide, width_of};
-ghost use Rattle.play.specs.Plays.{rules_of, Plays, NamesAll, Heard, heard_of, LeadsOn};
+ghost use Rattle.play.specs.Scene.{view_of, in_range, Answers, pass_fault, Passed, word_fault, reply_fault, lie_fault, NotBegun, SameLiars, Stayed, Lied, wide};
+ghost use Rattle.play.specs.Plays.{rules_of, Plays, Heard, heard_of, LeadsOn, Shown};
 
 use crate::cast::Cast;
 use choice::runs::{Run, bounds, contains};
@@ -15,8 +14,8 @@ use script::words::Unread;
 use script::{Settings, Word};
 use span::CEILING;
 use span::rate::Drift;
-use std::alloc::Global;
-use std::fmt;
+use std::alloc::{AllocError, Global};
+use thiserror::Error;
 
 // The latest that true time can be at the beginning.
 const LATEST: u64 = 1 << 61;
@@ -25,26 +24,60 @@ const LATEST: u64 = 1 << 61;
 const WIDEST: u64 = 1 << 31;
 
 // Why a line of a script is refused.
-#[derive(Clone, Copy)]
+#[derive(Clone, Copy, Debug, Error)]
 pub enum Fault {
     // it can't be read
+    #[error(transparent)]
     Unread(Unread),
     // the settings don't come first, come again, or are out of range
+    #[error("the settings come first")]
     NoSettings,
+    #[error("the settings come only once")]
     SettingsAgain,
+    #[error("the settings are out of range")]
     SettingsRange,
     // the step lies outside the drift, or passes the ceiling or the largest count
+    #[error("the step lies outside the drift")]
     OutsideDrift,
+    #[error("true time would pass its ceiling")]
     PastCeiling,
+    #[error("the local clock would pass its largest count")]
     PastCount,
     // there is no such server, or its word is out of range
+    #[error("there is no such server")]
     NoServer,
+    #[error("the midpoint or the radius is out of range")]
     WordRange,
     // an honest server's word is not true, or more servers lie than may be faulty
+    #[error("what an honest server says is true")]
     NotTrue,
+    #[error("more servers lie than may be faulty")]
     TooManyLie,
     // there is no memory
+    #[error("there is no memory")]
     NoMemory,
+}
+
+impl From<Unread> for Fault {
+    ghost use Rattle.std.specs.Prelude.{◌≡◌};
+    ghost use Rattle.play.specs.declared.scene.Fault.{Fault};
+
+    ghost from_gives = { λ unread fault. fault ≡ Fault.Unread unread };
+
+    fn from(unread: Unread) -> Fault {
+        Fault::Unread(unread)
+    }
+}
+
+impl From<AllocError> for Fault {
+    ghost use Rattle.std.specs.Prelude.{◌≡◌};
+    ghost use Rattle.play.specs.declared.scene.Fault.TheVariants.{NoMemory};
+
+    ghost from_gives = { λ _ fault. fault ≡ NoMemory };
+
+    fn from(_error: AllocError) -> Fault {
+        Fault::NoMemory
+    }
 }
 
 // What is shown of a moment: the local clock's count, true time, whether it was said, how wide what is said is, the named servers, as bits of a number, and the hand, and whether its time may be.
@@ -63,10 +96,7 @@ pub struct Moment {
 fn width(runs: &[Run]) -> u64
     ensures value { result ≡ wide (bounds_of runs.now) }
 {
-    match bounds(runs) {
-        Some((least, greatest)) => greatest.saturating_sub(least),
-        None => 0,
-    }
+    bounds(runs).map_or(0, |(least, greatest)| greatest.saturating_sub(least))
 }
 
 // A played world now: who is there, the local clock's drift and count, true time, what is said, and the hand.
@@ -82,22 +112,16 @@ pub struct Scene {
 
 impl Scene {
     // The beginning of a world with these settings.
-    pub(crate) fn new(heap: Global, settings: &Settings) -> Result<Scene, Fault>
+    pub(crate) fn new(alloc: Global, settings: &Settings) -> Result<Scene, Fault>
         ensures begins { IfOk result (λ s. (in_range settings.now ≡ true) × Plays (rules_of settings.now) [] [] (view_of s)) }
         ensures refuses { IfErr result (λ e. NotBegun settings.now e) }
     {
-        let Some(cast) = Cast::new(settings.servers, settings.faulty) else {
-            return Err(Fault::SettingsRange);
-        };
-        let Some(drift) = Drift::new(settings.drift) else {
-            return Err(Fault::SettingsRange);
-        };
+        let cast = Cast::new(settings.servers, settings.faulty).ok_or(Fault::SettingsRange)?;
+        let drift = Drift::new(settings.drift).ok_or(Fault::SettingsRange)?;
         if settings.truth > LATEST {
             return Err(Fault::SettingsRange);
         }
-        let Ok(ledger) = Ledger::new(heap, cast.servers(), cast.faulty(), LATEST) else {
-            return Err(Fault::NoMemory);
-        };
+        let ledger = Ledger::new(alloc, cast.servers(), cast.faulty(), LATEST)?;
         Ok(Scene {
             cast,
             drift,
@@ -122,9 +146,7 @@ impl Scene {
         if truth > CEILING {
             return Err(Fault::PastCeiling);
         }
-        let Some(count) = self.count.checked_add(ticks) else {
-            return Err(Fault::PastCount);
-        };
+        let count = self.count.checked_add(ticks).ok_or(Fault::PastCount)?;
         self.ledger.pass(self.drift.stride(ticks));
         self.hand = self.hand.passed(self.ledger.runs(), ticks);
         self.count = count;
@@ -132,50 +154,48 @@ impl Scene {
         Ok(())
     }
 
-    // Why a word can't be spoken at all.
-    fn word_fault(&self, word: &Word) -> Option<Fault>
-        ensures value { result ≡ word_fault (view_of self.now) word.now }
+    // Whether a word can be spoken at all, or why not.
+    fn check_word(&self, word: &Word) -> Result<(), Fault>
+        ensures answer { Answers (word_fault (view_of self.now) word.now) result }
     {
         if !self.cast.has(word.server) {
-            return Some(Fault::NoServer);
+            return Err(Fault::NoServer);
         }
         if word.midpoint > CEILING || word.radius > WIDEST {
-            return Some(Fault::WordRange);
+            return Err(Fault::WordRange);
         }
-        None
+        Ok(())
     }
 
-    // Why an honest server can't say this.
-    fn reply_fault(&self, word: &Word) -> Option<Fault>
-        ensures value { result ≡ reply_fault (view_of self.now) word.now }
+    // Whether an honest server can say this, or why not.
+    fn check_reply(&self, word: &Word) -> Result<(), Fault>
+        ensures answer { Answers (reply_fault (view_of self.now) word.now) result }
     {
-        if let Some(fault) = self.word_fault(word) {
-            return Some(fault);
-        }
+        self.check_word(word)?;
         let least = word.midpoint.saturating_sub(word.radius);
         let greatest = word.midpoint.saturating_add(word.radius);
         if self.truth < least || self.truth > greatest {
-            return Some(Fault::NotTrue);
+            return Err(Fault::NotTrue);
         }
-        None
+        Ok(())
     }
 
-    // Why a faulty server can't say this.
-    fn lie_fault(&self, word: &Word) -> Option<Fault>
-        ensures value { result ≡ lie_fault (view_of self.now) word.now }
+    // Whether a faulty server can say this, or why not.
+    fn check_lie(&self, word: &Word) -> Result<(), Fault>
+        ensures answer { Answers (lie_fault (view_of self.now) word.now) result }
     {
-        if let Some(fault) = self.word_fault(word) {
-            return Some(fault);
-        }
+        self.check_word(word)?;
         if !self.cast.may_lie(word.server) {
-            return Some(Fault::TooManyLie);
+            return Err(Fault::TooManyLie);
         }
-        None
+        Ok(())
     }
 
     // A server is asked and heard at this moment.
     fn hear(&mut self, word: &Word)
-        requires { (word.now.server < 256) × ((word.now.midpoint ≤ 2 ^ 62) × (word.now.radius ≤ 2 ^ 31)) }
+        requires server { word.now.server < 256 }
+        requires midpoint { word.now.midpoint ≤ 2 ^ 62 }
+        requires radius { word.now.radius ≤ 2 ^ 31 }
         ensures heard { Heard (view_of self.old) word.now (view_of self.new) }
         ensures liars { SameLiars (view_of self.old) (view_of self.new) }
     {
@@ -193,13 +213,9 @@ impl Scene {
         ensures same { OnErr result (self.new ≡ self.old) }
         ensures leads { OnOk result (LeadsOn (heard_of word.now) (view_of self.old) (view_of self.new)) }
     {
-        match self.reply_fault(word) {
-            Some(fault) => Err(fault),
-            None => {
-                self.hear(word);
-                Ok(())
-            }
-        }
+        self.check_reply(word)?;
+        self.hear(word);
+        Ok(())
     }
 
     // A faulty server is asked and heard.
@@ -209,14 +225,10 @@ impl Scene {
         ensures same { OnErr result (self.new ≡ self.old) }
         ensures leads { OnOk result (LeadsOn (heard_of word.now) (view_of self.old) (view_of self.new)) }
     {
-        match self.lie_fault(word) {
-            Some(fault) => Err(fault),
-            None => {
-                self.cast.lie(word.server);
-                self.hear(word);
-                Ok(())
-            }
-        }
+        self.check_lie(word)?;
+        self.cast.lie(word.server);
+        self.hear(word);
+        Ok(())
     }
 
     // The runs of times that are said.
@@ -228,13 +240,7 @@ impl Scene {
 
     // What is shown of the world now.
     pub fn moment(&self) -> Moment
-        ensures count { result.count ≡ self.now.count }
-        ensures truth { result.truth ≡ self.now.truth }
-        ensures said { result.said ≡ said_of (view_of self.now) }
-        ensures width { result.width ≡ width_of (view_of self.now) }
-        ensures named { NamesAll (view_of self.now) result.named }
-        ensures hand { result.hand ≡ self.now.hand.time }
-        ensures sound { result.sound ≡ sound_in (view_of self.now).runs self.now.hand.time }
+        ensures shown { Shown (view_of self.now) result }
         ensures always { (rs : Rules) (es : List Event) (ts : List ℕ) → Plays rs es ts (view_of self.now) → result.said ≡ true }
     {
         let runs = self.ledger.runs();
@@ -246,29 +252,6 @@ impl Scene {
             named: self.ledger.named(),
             hand: self.hand.shown(),
             sound: self.hand.is_sound(runs),
-        }
-    }
-}
-
-impl fmt::Display for Fault {
-    fn fmt<W: fmt::Write>(&self, f: &mut fmt::Formatter<W>) -> fmt::Result {
-        match self {
-            Fault::Unread(Unread::UnknownWord) => f.write_str("no statement begins with this word"),
-            Fault::Unread(Unread::MissingNumber) => f.write_str("a number is missing"),
-            Fault::Unread(Unread::NoNumber) => f.write_str("a number is expected"),
-            Fault::Unread(Unread::TooLarge) => f.write_str("a number is too large"),
-            Fault::Unread(Unread::TooMuch) => f.write_str("the statement goes on too long"),
-            Fault::NoSettings => f.write_str("the settings come first"),
-            Fault::SettingsAgain => f.write_str("the settings come only once"),
-            Fault::SettingsRange => f.write_str("the settings are out of range"),
-            Fault::OutsideDrift => f.write_str("the step lies outside the drift"),
-            Fault::PastCeiling => f.write_str("true time would pass its ceiling"),
-            Fault::PastCount => f.write_str("the local clock would pass its largest count"),
-            Fault::NoServer => f.write_str("there is no such server"),
-            Fault::WordRange => f.write_str("the midpoint or the radius is out of range"),
-            Fault::NotTrue => f.write_str("what an honest server says is true"),
-            Fault::TooManyLie => f.write_str("more servers lie than may be faulty"),
-            Fault::NoMemory => f.write_str("there is no memory"),
         }
     }
 }

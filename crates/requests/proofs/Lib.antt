@@ -1,5 +1,4 @@
-pub mod Slots
-pub mod Reach
 pub mod Firsts
+pub mod Reach
 pub mod Known
 pub mod Closing

@@ -1,8 +1,7 @@
 -- Requests: when one is over, which one a reply is for, and how many are known.
-use Rattle.std.specs.Prelude.{ℕ, suc, ◌+◌, ◌-◌, max, Bool, true, cond, ◌&&◌, List, [], ◌∷◌, ◌==◌, nat_le, nat_lt}
+use Rattle.std.specs.Prelude.{ℕ, ◌+◌, ◌-◌, max, Bool, true, ◌&&◌, List, [], ◌∷◌, count_by, ◌==◌, nat_le, nat_lt}
 use Rattle.std.specs.Str.{bytes_eq}
 use Rattle.requests.specs.declared.request.Request.{Request}
-use Rattle.requests.specs.declared.request.Closed.{Closed}
 use Rattle.requests.specs.declared.request.Over.{Over}
 use Rattle.requests.specs.declared.request.Over.TheVariants.{Age, Far, Any}
 
@@ -19,17 +18,9 @@ over Any q = true
 abbrev pub is_for : ℕ → List ℕ → Request → Bool
 is_for server nonce q = q.server == server && bytes_eq q.nonce nonce
 
-abbrev pub is_known_for : ℕ → List ℕ → Closed → Bool
-is_known_for server nonce c = c.server == server && bytes_eq c.nonce nonce
-
 -- a pending request that is not far, of the same server and count
 abbrev pub alike : Request → Request → Bool
 alike p q = q.server == p.server && q.count == p.count && nat_lt q.since 64
-
--- the place of the first that passes a test; past the end where none does
-unfoldable pub first_of : {X : Type 0} → (X → Bool) → List X → ℕ
-first_of p [] = 0
-first_of p (x ∷ xs) = cond (p x) 0 (suc (first_of p xs))
 
 -- how many moments one has to go back to reach them all
 unfoldable pub reach_of : List Request → ℕ
@@ -37,20 +28,16 @@ reach_of [] = 0
 reach_of (q ∷ qs) = max (q.since + 1) (reach_of qs)
 
 -- how many were closed in the last k moments
-unfoldable pub known_upto : ℕ → List Closed → ℕ
-known_upto k [] = 0
-known_upto k (c ∷ cs) = cond (nat_le c.since k) 1 0 + known_upto k cs
+abbrev pub known_upto : ℕ → List Request → ℕ
+known_upto k cs = count_by (λ c. nat_le c.since k) cs
 
 -- one moment later
 abbrev pub later_by : Request → Request
-later_by q = record { server = q.server; nonce = q.nonce; count = q.count; since = q.since + 1 }
-
-abbrev pub known_later : Closed → Closed
-known_later c = record { server = c.server; nonce = c.nonce; since = c.since + 1 }
+later_by q = record q { since = q.since + 1 }
 
 -- closed just now
-abbrev pub closed_now : Request → Closed
-closed_now q = record { server = q.server; nonce = q.nonce; since = 0 }
+abbrev pub closed_now : Request → Request
+closed_now q = record q { since = 0 }
 
 -- what stands past the end of a list
 abbrev pub no_request : Request
@@ -58,4 +45,4 @@ no_request = record { server = 0; nonce = []; count = 0; since = 0 }
 
 -- with another nonce
 abbrev pub renonced : List ℕ → Request → Request
-renonced nonce q = record { server = q.server; nonce = nonce; count = q.count; since = q.since }
+renonced nonce q = record q { nonce = nonce }

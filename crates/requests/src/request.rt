@@ -1,6 +1,13 @@
-// A request that is pending, one that is closed, and why one is closed.
+// A request, why one is closed, and why a nonce fits none.
+ghost use Rattle.std.specs.Prelude.{◌≡◌, ◌<◌, ◌≤◌, All, map, nat_le};
+ghost use Rattle.requests.specs.Request.{alike, is_for, later_by, over};
 
-// A request that waits for a reply: the server that was asked, the nonce that was sent to it, the local clock's count then, and the moments since.
+// A request is pending for ten seconds, and for 64 moments.
+const TEN_SECONDS: u64 = 10_000_000;
+
+const MOMENTS: u8 = 64;
+
+// A request: the server that was asked, the nonce that was sent to it, the local clock's count then, and the moments since it was asked, or since it was closed.
 #[derive(Clone, Copy)]
 pub struct Request {
     pub server: u8,
@@ -9,15 +16,8 @@ pub struct Request {
     pub since: u8,
 }
 
-// A request that is closed: its reply would come too late. It is known for 64 moments.
-#[derive(Clone, Copy)]
-pub struct Closed {
-    pub server: u8,
-    pub nonce: [u8; 32],
-    pub since: u8,
-}
-
 // Why a request is closed: at this count it is too old, 64 moments came since, or all are closed.
+// It stays an enum: a contract says less plainly what a test that is handed in answers.
 #[derive(Clone, Copy)]
 pub enum Over {
     Age(u64),
@@ -25,18 +25,55 @@ pub enum Over {
     Any,
 }
 
-// Which pending request is sought: the first that is over, that has this nonce of this server, or that is not far and has the server and the count of this one.
-#[derive(Clone, Copy)]
-pub(crate) enum Seek {
-    Over(Over),
-    For(u8, [u8; 32]),
-    Like(Request),
-}
-
-// How a nonce of a server stands: it is not known, its reply comes too late, or it is that of the pending request at this place.
-#[derive(Clone, Copy)]
-pub enum Standing {
+// Why a nonce of a server fits no pending request: it is not known, or its reply comes too late.
+#[derive(Clone, Copy, Debug, PartialEq, Eq)]
+pub enum Unfit {
     Unknown,
     Late,
-    Pending(usize),
+}
+
+impl Request {
+    // Whether 64 moments came since.
+    pub(crate) fn is_far(&self) -> bool
+        ensures value { result ≡ nat_le 64 self.now.since }
+    {
+        self.since >= MOMENTS
+    }
+
+    // Whether this nonce was sent to this server.
+    pub(crate) fn is_for(&self, server: u8, nonce: &[u8; 32]) -> bool
+        ensures value { result ≡ is_for server nonce.now self.now }
+    {
+        self.server == server && self.nonce == *nonce
+    }
+
+    // Whether it is not far and has the server and the count of another.
+    pub(crate) fn is_like(&self, other: &Request) -> bool
+        ensures value { result ≡ alike other.now self.now }
+    {
+        self.server == other.server && self.count == other.count && !self.is_far()
+    }
+}
+
+impl Over {
+    // Whether a request is over.
+    pub(crate) fn is_over(self, request: &Request) -> bool
+        ensures value { result ≡ over self request.now }
+    {
+        match self {
+            Over::Age(count) => count.saturating_sub(request.count) > TEN_SECONDS,
+            Over::Far => request.is_far(),
+            Over::Any => true,
+        }
+    }
+}
+
+// One moment later for each.
+pub(crate) fn all_later(requests: &mut [Request])
+    requires { All (λ q. q.since ≤ 64) requests.old }
+    ensures after { requests.new ≡ map later_by requests.old }
+{
+    for request in requests.iter_mut() {
+        request.since += 1;
+    }
 }

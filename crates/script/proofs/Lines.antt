@@ -1,11 +1,13 @@
 -- Reading a line word by word: what one step of a loop and one number more give.
-use Rattle.std.proofs.Common.{◌≡◌, ℕ, suc, ◌+◌, ◌*◌, ◌/◌, ◌%◌, ◌^◌, ◌<◌, ◌≤◌, Bool, true, false, cond, List, [], ◌∷◌, ◌++◌, length, get_or, drop, Ok, Err, Result, sym, refl, ap, ◌∙◌, arith}
-use mathlib.Core.Bool.{beq}
+use Rattle.std.proofs.Common.{◌≡◌, ℕ, ◌+◌, ◌*◌, ◌/◌, ◌%◌, ◌^◌, ◌<◌, ◌≤◌, Bool, true, false, cond, not, ltb, List, [], ◌∷◌, ◌++◌, length, get_or, drop, position, unwrap_or, Some, None, Ok, Err, Result, sym, refl, ap, ◌∙◌, add-one, append_assoc, append-nil, arith}
 use Rattle.std.proofs.lemmas.Bool.Decides.{nat_tests}
+use Rattle.std.specs.List.{position_or_len}
+use Rattle.std.proofs.lemmas.Bool.{ltb-false}
 use Rattle.std.proofs.lemmas.List.{at_drop_more, at_drop_all}
+use Rattle.std.proofs.lemmas.List.Sums.{prefix_len-le-length}
 use Rattle.std.proofs.lemmas.Fmt.{decimal_by_steps}
 use Rattle.script.specs.declared.words.Unread.{Unread}
-use Rattle.script.specs.Words.{is_blank, front, and_then, digit, numeral, number, first_word, after_word, NumbersRead}
+use Rattle.script.specs.Words.{and_then, digit, ended, numeral, number, numbers, NumbersRead}
 
 pub then_err : {X Y : Type 0} (r : Result X Unread) (f : X → Result Y Unread) (e : Unread) → r ≡ Err e → and_then r f ≡ Err e
 then_err r f e h = ap (λ x. and_then x f) h
@@ -13,41 +15,12 @@ then_err r f e h = ap (λ x. and_then x f) h
 pub then_ok : {X Y : Type 0} (r : Result X Unread) (f : X → Result Y Unread) (x : X) → r ≡ Ok x → and_then r f ≡ f x
 then_ok r f x h = ap (λ y. and_then y f) h
 
--- a byte of the kind that is counted, and one of the other kind
-front_at : (b : Bool) (c : ℕ) (cs : List ℕ) → is_blank c ≡ b → front b (c ∷ cs) ≡ 1 + front b cs
-unfolding front
-front_at true c cs h = rw h (omega arith)
-front_at false c cs h = rw h (omega arith)
-
-front_off : (b : Bool) (c : ℕ) (cs : List ℕ) → (is_blank c ≡ b → ⊥) → front b (c ∷ cs) ≡ 0
-unfolding front
-front_off true c cs h = go (is_blank c) refl where
-  go : (t : Bool) → is_blank c ≡ t → cond t (suc (front true cs)) 0 ≡ 0
-  go true e = absurd (h e)
-  go false e = refl
-front_off false c cs h = go (is_blank c) refl where
-  go : (t : Bool) → is_blank c ≡ t → cond t 0 (suc (front false cs)) ≡ 0
+-- the place of the first that passes a test, or the end
+pub or_end : {X : Type 0} (p : X → Bool) (xs : List X) → unwrap_or (position p xs) (length xs) ≡ position_or_len p xs
+or_end p xs = go (ltb (position_or_len p xs) (length xs)) refl where
+  go : (b : Bool) → ltb (position_or_len p xs) (length xs) ≡ b → unwrap_or (cond b (Some (position_or_len p xs)) None) (length xs) ≡ position_or_len p xs
   go true e = refl
-  go false e = absurd (h e)
-
-pub front_more : (b : Bool) (cs : List ℕ) (n : ℕ) → n < length cs → is_blank (get_or cs n 0) ≡ b → front b (drop n cs) ≡ 1 + front b (drop (n + 1) cs)
-front_more b cs n h e = at_drop_more (front b) cs n 0 h ∙ front_at b (get_or cs n 0) _ e
-
-pub front_stops : (b : Bool) (cs : List ℕ) (n : ℕ) → n < length cs → (is_blank (get_or cs n 0) ≡ b → ⊥) → front b (drop n cs) ≡ 0
-front_stops b cs n h e = at_drop_more (front b) cs n 0 h ∙ front_off b (get_or cs n 0) _ e
-
-pub front_ends : (b : Bool) (cs : List ℕ) (n : ℕ) → length cs ≤ n → front b (drop n cs) ≡ 0
-unfolding front
-front_ends b cs n h = at_drop_all (front b) cs n h
-
-pub beq_same : (a b : Bool) → beq a b ≡ true → a ≡ b
-beq_same true true h = refl
-beq_same true false h = sym h
-beq_same false true h = h
-beq_same false false h = refl
-
-pub beq_other : (a b : Bool) → beq a b ≡ false → a ≡ b → ⊥
-beq_other a b h e = grind arith
+  go false e = omega (arith, ltb-false (position_or_len p xs) (length xs) e, prefix_len-le-length (λ x. not (p x)) xs)
 
 pub numeral_err : (v : ℕ) (cs : List ℕ) (n : ℕ) (e : Unread) → n < length cs → digit v (get_or cs n 0) ≡ Err e → numeral v (drop n cs) ≡ Err e
 unfolding numeral
@@ -61,16 +34,35 @@ pub numeral_ends : (v : ℕ) (cs : List ℕ) (n : ℕ) → length cs ≤ n → n
 unfolding numeral
 numeral_ends v cs n h = at_drop_all (numeral v) cs n h
 
--- a line that has a word has the number that the word writes
-word_there : (cs : List ℕ) (r : Result (ℕ × List ℕ) Unread) → (length (first_word cs) ≡ 0 → ⊥) → and_then (numeral 0 (first_word cs)) (λ v. Ok (v, after_word cs)) ≡ r → number cs ≡ r
-unfolding number
-word_there cs r h p = grind (arith, nat_tests)
+-- the numbers so far, and those that are read after them
+abbrev pub onto : List ℕ → Result (List ℕ) Unread → Result (List ℕ) Unread
+onto xs r = and_then r (λ ys. Ok (xs ++ ys))
 
-pub number_err : (cs : List ℕ) (e : Unread) → (length (first_word cs) ≡ 0 → ⊥) → numeral 0 (first_word cs) ≡ Err e → number cs ≡ Err e
-number_err cs e h p = word_there cs (Err e) h (then_err (numeral 0 (first_word cs)) _ e p)
+onto_one : (xs : List ℕ) (x : ℕ) (r : Result (List ℕ) Unread) → onto xs (and_then r (λ ys. Ok (x ∷ ys))) ≡ onto (xs ++ x ∷ []) r
+onto_one xs x (Ok ys) = ap (λ l. Ok l) (sym (append_assoc xs (x ∷ []) ys))
+onto_one xs x (Err e) = refl
 
-pub number_ok : (cs : List ℕ) (v : ℕ) → (length (first_word cs) ≡ 0 → ⊥) → numeral 0 (first_word cs) ≡ Ok v → number cs ≡ Ok (v, after_word cs)
-number_ok cs v h p = word_there cs (Ok (v, after_word cs)) h (then_ok (numeral 0 (first_word cs)) _ v p)
+pub one_more : (n m : ℕ) (xs rest after : List ℕ) (x : ℕ) → n ≡ m + 1 → number rest ≡ Ok (x, after) → onto xs (numbers n rest) ≡ onto (xs ++ x ∷ []) (numbers m after)
+unfolding numbers
+one_more n m xs rest after x e h =
+    ap (λ k. onto xs (numbers k rest)) (e ∙ add-one m)
+    ∙ ap (onto xs) (then_ok (number rest) (λ y. and_then (numbers m y.1) (λ ys. Ok (y.0 ∷ ys))) (x, after) h)
+    ∙ onto_one xs x (numbers m after)
+
+pub none_more : (n m : ℕ) (xs rest : List ℕ) (e : Unread) → n ≡ m + 1 → number rest ≡ Err e → onto xs (numbers n rest) ≡ Err e
+unfolding numbers
+none_more n m xs rest e q h =
+    ap (λ k. onto xs (numbers k rest)) (q ∙ add-one m)
+    ∙ ap (onto xs) (then_err (number rest) (λ y. and_then (numbers m y.1) (λ ys. Ok (y.0 ∷ ys))) e h)
+
+pub last_read : (n : ℕ) (xs rest : List ℕ) → n ≡ 0 → ended rest ≡ Ok tt → onto xs (numbers n rest) ≡ Ok xs
+unfolding numbers
+last_read n xs rest e h =
+    ap (λ k. onto xs (numbers k rest)) e ∙ ap (onto xs) (then_ok (ended rest) (λ _. Ok []) tt h) ∙ ap (λ l. Ok l) (append-nil xs)
+
+pub too_much : (n : ℕ) (xs rest : List ℕ) (e : Unread) → n ≡ 0 → ended rest ≡ Err e → onto xs (numbers n rest) ≡ Err e
+unfolding numbers
+too_much n xs rest e q h = ap (λ k. onto xs (numbers k rest)) q ∙ ap (onto xs) (then_err (ended rest) (λ _. Ok []) e h)
 
 -- Every number is read as itself, as it is written in decimal digits.
 numeral_push : (v : ℕ) (cs : List ℕ) (c : ℕ) → numeral v (cs ++ c ∷ []) ≡ and_then (numeral v cs) (λ w. digit w c)

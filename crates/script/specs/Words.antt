@@ -1,5 +1,6 @@
 -- The words and numbers of a line of a script, the line being the list of its bytes.
-use Rattle.std.specs.Prelude.{◌≡◌, ℕ, suc, ◌+◌, ◌-◌, ◌*◌, ◌^◌, ◌<◌, Bool, true, false, cond, ◌&&◌, ◌||◌, List, [], ◌∷◌, length, take, drop, Ok, Err, decimal, Result, ◌==◌, nat_le, nat_lt}
+use Rattle.std.specs.Prelude.{◌≡◌, ℕ, zero, suc, ◌+◌, ◌-◌, ◌*◌, ◌^◌, ◌<◌, Bool, cond, not, ◌&&◌, ◌||◌, List, [], ◌∷◌, length, take, drop, Ok, Err, decimal, Result, ◌==◌, nat_le, nat_lt}
+use Rattle.std.specs.List.{position_or_len}
 use Rattle.script.specs.declared.words.Unread.{Unread}
 use Rattle.script.specs.declared.words.Unread.TheVariants.{MissingNumber, NoNumber, TooLarge, TooMuch}
 
@@ -7,21 +8,16 @@ use Rattle.script.specs.declared.words.Unread.TheVariants.{MissingNumber, NoNumb
 abbrev pub is_blank : ℕ → Bool
 is_blank c = c == 32 || c == 9
 
--- how many bytes at the front of a line are blanks, or how many are none
-unfoldable pub front : Bool → List ℕ → ℕ
-front b [] = 0
-front b (c ∷ cs) = cond (is_blank c) (cond b (suc (front b cs)) 0) (cond b 0 (suc (front b cs)))
-
 -- the line without the blanks at its front
 abbrev pub trimmed : List ℕ → List ℕ
-trimmed cs = drop (front true cs) cs
+trimmed cs = drop (position_or_len (λ c. not (is_blank c)) cs) cs
 
 -- the first word of a line, and what follows it
 abbrev pub first_word : List ℕ → List ℕ
-first_word cs = take (front false (trimmed cs)) (trimmed cs)
+first_word cs = take (position_or_len is_blank (trimmed cs)) (trimmed cs)
 
 abbrev pub after_word : List ℕ → List ℕ
-after_word cs = drop (front false (trimmed cs)) (trimmed cs)
+after_word cs = drop (position_or_len is_blank (trimmed cs)) (trimmed cs)
 
 -- go on with what was read, or stay with the first fault
 abbrev pub and_then : {X Y : Type 0} → Result X Unread → (X → Result Y Unread) → Result Y Unread
@@ -46,17 +42,9 @@ unfoldable pub ended : List ℕ → Result (Unit {0}) Unread
 ended cs = cond (length (first_word cs) == 0) (Ok tt) (Err TooMuch)
 
 -- just so many numbers are left on the line
-unfoldable pub one : List ℕ → Result ℕ Unread
-one cs = and_then (number cs) (λ x. and_then (ended x.1) (λ _. Ok x.0))
-
-unfoldable pub two : List ℕ → Result (ℕ × ℕ) Unread
-two cs = and_then (number cs) (λ x. and_then (one x.1) (λ y. Ok (x.0, y)))
-
-unfoldable pub three : List ℕ → Result (ℕ × ℕ × ℕ) Unread
-three cs = and_then (number cs) (λ x. and_then (two x.1) (λ y. Ok (x.0, y.0, y.1)))
-
-unfoldable pub four : List ℕ → Result (ℕ × ℕ × ℕ × ℕ) Unread
-four cs = and_then (number cs) (λ x. and_then (three x.1) (λ y. Ok (x.0, y.0, y.1, y.2)))
+unfoldable pub numbers : ℕ → List ℕ → Result (List ℕ) Unread
+numbers zero cs = and_then (ended cs) (λ _. Ok [])
+numbers (suc n) cs = and_then (number cs) (λ x. and_then (numbers n x.1) (λ ys. Ok (x.0 ∷ ys)))
 
 -- every number of 64 bits is read as itself
 abbrev pub NumbersRead : Type 0

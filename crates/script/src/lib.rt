@@ -2,13 +2,12 @@
 #![tactic(auto)]
 
 ghost use Rattle.std.specs.Prelude.{◌≡◌};
-ghost use Rattle.script.specs.Script.{silent, keyword_of, begin_of, pass_of, word_of, reply_of, lie_of, statement_of};
+ghost use Rattle.script.specs.Script.{silent, keyword_of, settings_of, pass_of, word_of, said_by, statement_of};
 ghost use Rattle.script.specs.Words.{NumbersRead};
-ghost use Rattle.std.specs.Str.{bytes_eq};
 
 pub mod words;
 
-use words::{Unread, first_word, four, three, two};
+use words::{Unread, first_word, numbers};
 
 // What a script fixes at its beginning: how many servers there are, how many of them may be faulty, the local clock's drift in millionths, and true time.
 #[derive(Clone, Copy)]
@@ -27,20 +26,18 @@ pub struct Word {
     pub radius: u64,
 }
 
-// What a line of a script says: nothing; the settings; that the local clock counts so many ticks while true time goes on by so much; what an honest server says, or a faulty one.
+// What a line of a script says: the settings; that the local clock counts so many ticks while true time goes on by so much; what an honest server says, or a faulty one.
 #[derive(Clone, Copy)]
 pub enum Statement {
-    Nothing,
     Begin(Settings),
     Pass(u64, u64),
     Reply(Word),
     Lie(Word),
 }
 
-// The first word of a statement; a line that is empty or begins with `#` is a comment.
+// The first word of a statement.
 #[derive(Clone, Copy)]
 enum Keyword {
-    Comment,
     Settings,
     Pass,
     Reply,
@@ -51,63 +48,44 @@ enum Keyword {
 fn is_silent(word: &[u8]) -> bool
     ensures value { result ≡ silent word.now }
 {
-    match word {
-        [] => true,
-        [first, ..] => *first == b'#',
-    }
-}
-
-// Whether two texts are the same.
-fn is_same(word: &[u8], text: &[u8]) -> bool
-    ensures value { result ≡ bytes_eq word.now text.now }
-{
-    word == text
+    matches!(word, [] | [b'#', ..])
 }
 
 fn read_keyword(word: &[u8]) -> Result<Keyword, Unread>
     ensures value { result ≡ keyword_of word.now }
 {
-    if is_silent(word) {
-        return Ok(Keyword::Comment);
+    match word {
+        b"settings" => Ok(Keyword::Settings),
+        b"pass" => Ok(Keyword::Pass),
+        b"reply" => Ok(Keyword::Reply),
+        b"lie" => Ok(Keyword::Lie),
+        _ => Err(Unread::UnknownWord),
     }
-    if is_same(word, b"settings") {
-        return Ok(Keyword::Settings);
-    }
-    if is_same(word, b"pass") {
-        return Ok(Keyword::Pass);
-    }
-    if is_same(word, b"reply") {
-        return Ok(Keyword::Reply);
-    }
-    if is_same(word, b"lie") {
-        return Ok(Keyword::Lie);
-    }
-    Err(Unread::UnknownWord)
 }
 
-fn read_settings(rest: &[u8]) -> Result<Statement, Unread>
-    ensures value { result ≡ begin_of rest.now }
+fn read_settings(rest: &[u8]) -> Result<Settings, Unread>
+    ensures value { result ≡ settings_of rest.now }
 {
-    let (servers, faulty, drift, truth) = four(rest)?;
-    Ok(Statement::Begin(Settings {
+    let [servers, faulty, drift, truth] = numbers::<4>(rest)?;
+    Ok(Settings {
         servers,
         faulty,
         drift,
         truth,
-    }))
+    })
 }
 
 fn read_pass(rest: &[u8]) -> Result<Statement, Unread>
     ensures value { result ≡ pass_of rest.now }
 {
-    let (ticks, truth) = two(rest)?;
+    let [ticks, truth] = numbers::<2>(rest)?;
     Ok(Statement::Pass(ticks, truth))
 }
 
 fn read_word(rest: &[u8]) -> Result<Word, Unread>
     ensures value { result ≡ word_of rest.now }
 {
-    let (server, midpoint, radius) = three(rest)?;
+    let [server, midpoint, radius] = numbers::<3>(rest)?;
     Ok(Word {
         server,
         midpoint,
@@ -115,29 +93,27 @@ fn read_word(rest: &[u8]) -> Result<Word, Unread>
     })
 }
 
-fn read_reply(rest: &[u8]) -> Result<Statement, Unread>
-    ensures value { result ≡ reply_of rest.now }
+fn read_statement(keyword: Keyword, rest: &[u8]) -> Result<Statement, Unread>
+    ensures value { result ≡ said_by keyword rest.now }
 {
-    Ok(Statement::Reply(read_word(rest)?))
+    match keyword {
+        Keyword::Settings => Ok(Statement::Begin(read_settings(rest)?)),
+        Keyword::Pass => read_pass(rest),
+        Keyword::Reply => Ok(Statement::Reply(read_word(rest)?)),
+        Keyword::Lie => Ok(Statement::Lie(read_word(rest)?)),
+    }
 }
 
-fn read_lie(rest: &[u8]) -> Result<Statement, Unread>
-    ensures value { result ≡ lie_of rest.now }
-{
-    Ok(Statement::Lie(read_word(rest)?))
-}
-
-// What the line says.
-pub fn parse(line: &[u8]) -> Result<Statement, Unread>
+// What the line says; nothing, if it is empty or its first word begins with `#`.
+#[tactic(auto, using(crate::proofs::Lines::numbers_read), unfolding(crate::specs::Script::statement_of))]
+pub fn parse(line: &[u8]) -> Result<Option<Statement>, Unread>
     ensures value { result ≡ statement_of line.now }
     ensures numbers { NumbersRead }
 {
     let (word, rest) = first_word(line);
-    match read_keyword(word)? {
-        Keyword::Comment => Ok(Statement::Nothing),
-        Keyword::Settings => read_settings(rest),
-        Keyword::Pass => read_pass(rest),
-        Keyword::Reply => read_reply(rest),
-        Keyword::Lie => read_lie(rest),
+    if is_silent(word) {
+        return Ok(None);
     }
+    let keyword = read_keyword(word)?;
+    Ok(Some(read_statement(keyword, rest)?))
 }

@@ -6,19 +6,11 @@ use std::io::{BufRead, BufReader};
 // The message 'refused, for the first reason': an unknown kind.
 const REFUSED: &str = "1501";
 
-fn run(rt: &HostRuntime) -> anyhow::Result<()> {
-    let mut input = BufReader::new(rt.alloc(), rt.stdin())?;
-    let mut line = Vec::new(rt.alloc());
-    for _ in 0..u64::MAX {
-        line.clear();
-        if input.read_until(b'\n', &mut line)? == 0 {
-            break;
-        }
+fn main(rt: HostRuntime) -> anyhow::Result<()> {
+    let input = BufReader::new(rt.alloc(), rt.stdin())?;
+    for line in input.split(rt.alloc(), b'\n') {
+        line?;
         println!(rt; "{REFUSED}")?;
     }
     Ok(())
-}
-
-fn main(rt: HostRuntime) -> anyhow::Result<()> {
-    run(&rt)
 }

@@ -1,15 +1,28 @@
-use Rattle.std.proofs.Common.{◌≡◌, ℕ, ◌+◌, length, vec_items, refl, ap, arith}
+use Rattle.std.proofs.Common.{◌≡◌, ◌+◌, ◌≤◌, ℕ, length, refl, ap, arith}
 use Rattle.std.proofs.lemmas.List.Edits.{length-remove}
+use Rattle.std.proofs.lemmas.List.Elements.{All-push}
 use Rattle.requests.specs.Request.{known_upto, reach_of}
-use Rattle.requests.specs.Pending.{waiting_in}
-use Rattle.requests.proofs.Known.{reach_removed, known_more}
+use Rattle.requests.proofs.Reach.{reach_removed}
+use Rattle.requests.proofs.Known.{known_all, known_more}
 use Rattle.requests.proofs.Requests.close_at.Goals as goal
+
+pub push_reserved-requires : goal.push_reserved-requires
+push_reserved-requires c =
+    let q = c.self.inside in
+    let kept = c.self.invariant in
+    omega (arith, kept.roomy, kept.few 64, known_all 64 q.closed.items kept.fresh, c.requires, ap (λ b. length b.pending) c.self.view_is, q.closed.ok.0)
 
 pub invariant_of-self : goal.invariant_of-self
 invariant_of-self c =
-    let q = c.args.self.now in
-    let ps = waiting_in q.pending in
-    let gone = c.remove.ensures.waiting in
-    let less = length-remove ps c.args.place c.requires in
-    let more : (k : ℕ) → known_upto k (vec_items c.push_reserved.new.self) ≡ known_upto k (vec_items q.closed) + 1 = λ k. known_more k (vec_items q.closed) (vec_items c.push_reserved.new.self) _ c.push_reserved.ensures.items refl in
-    record { near = omega (arith, ap reach_of gone, reach_removed ps c.args.place, q.near); room = omega (arith, q.room, c.push_reserved.ensures.capacity); few = λ k. omega (arith, ap length gone, more k, q.few k); fresh = omega (arith, more 64, q.fresh, c.push_reserved.ensures.len) }
+    let q = c.self.inside in
+    let kept = c.self.invariant in
+    let gone = c.remove-request.ensures.waiting in
+    let less = length-remove q.pending c.args.place (omega (arith, c.requires, ap (λ b. length b.pending) c.self.view_is)) in
+    let pushed = c.push_reserved.ensures.items in
+    let more : (k : ℕ) → known_upto k c.push_reserved.new.self.items ≡ known_upto k q.closed.items + 1 = λ k. known_more k q.closed.items _ _ pushed refl in
+    record {
+      near = omega (arith, ap reach_of gone, reach_removed q.pending c.args.place, kept.near);
+      roomy = omega (arith, kept.roomy, c.push_reserved.ensures.capacity);
+      few = λ k. omega (arith, ap length gone, more k, kept.few k);
+      fresh = rw pushed (All-push (λ r. r.since ≤ 64) q.closed.items _ kept.fresh (omega arith));
+    }

@@ -1,21 +1,20 @@
-use Rattle.std.proofs.Common.{◌<◌, length, sym, ◌∙◌, arith}
+use Rattle.std.proofs.Common.{◌<◌, length, ◌∙◌, arith}
 use Rattle.play.specs.Scene.{view_of, Same}
 use Rattle.play.proofs.Acts.{lies_on, may_lie_lem}
 use Rattle.play.proofs.scene.Scene.lie.Goals as goal
 
-pub returns-in-None : goal.returns-in-None
-returns-in-None c =
+pub returns : goal.returns
+returns c =
     let p = view_of c.args.self.now in
     let w = c.args.word.now in
-    let none = sym c.in-None.ensures.value in
+    let none = c.in_ok-check_lie.ensures.answer in
     let k = may_lie_lem p w none in
     let l = c.lie.ensures in
-    let done = l.lied k.0 k.1 in
     let h = c.hear.ensures.heard in
     let who = c.hear.ensures.liars in
-    let same : Same p (view_of c.hear.new.self) = record { servers = h.same.servers ∙ l.same.0; faulty = h.same.faulty ∙ l.same.1; drift = h.same.drift; naming = h.same.naming } in
-    let liars = who.liars ∙ done.1 in
-    let lied = who.lied ∙ done.0 in
+    let same : Same p (view_of c.hear.new.self) = record { servers = h.same.servers ∙ l.servers; faulty = h.same.faulty ∙ l.faulty; drift = h.same.drift; naming = h.same.naming } in
+    let liars = who.liars ∙ l.liars in
+    let lied = who.lied ∙ l.lied in
     let long : w.server < length p.lied = omega (arith, k.0, c.args.self.now.cast.small, c.args.self.now.cast.ten) in
     record {
       answer = none;

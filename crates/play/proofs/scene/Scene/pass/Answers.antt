@@ -7,7 +7,8 @@ use Rattle.play.proofs.scene.Scene.pass.Goals as goal
 pub returns : goal.returns
 returns c =
     let truth : c.saturating_add-truth.result ≡ c.args.self.now.truth + c.args.step = omega arith in
-    let count = c.in-Some.ensures.1 in
+    let added = rw c.in_ok-count.ensures.ok_part at c.checked_add.ensures in
+    let count : c.in_ok-count.count ≡ c.args.self.now.count + c.args.ticks = added.1 in
     record {
       answer = grind (arith, nat_tests);
       after = record { same = record { servers = refl; faulty = refl; drift = refl; naming = c.pass.ensures.same.1 }; liars = record { liars = refl; lied = refl }; count = count; truth = truth; hand = c.passed-self.ensures.value ∙ ap (λ rs. passed rs c.args.ticks c.args.self.now.hand) c.runs.ensures.value };

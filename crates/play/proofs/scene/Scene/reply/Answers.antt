@@ -1,11 +1,10 @@
-use Rattle.std.proofs.Common.{sym}
 use Rattle.play.specs.Scene.{view_of}
 use Rattle.play.proofs.Acts.{replies_on, true_word}
 use Rattle.play.proofs.scene.Scene.reply.Goals as goal
 
-pub returns-in-None : goal.returns-in-None
-returns-in-None c =
-    let none = sym c.in-None.ensures.value in
+pub returns : goal.returns
+returns c =
+    let none = c.in_ok-check_reply.ensures.answer in
     let k = true_word (view_of c.args.self.now) c.args.word.now none in
     let h = c.hear.ensures.heard in
     record {

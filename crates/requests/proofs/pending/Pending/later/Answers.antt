@@ -1,21 +1,7 @@
-use Rattle.std.proofs.Common.{◌≡◌, ◌-◌, map, length, take, drop, ap, ◌∙◌, arith, length-take}
-use lib.ListN.{length-map}
-use Rattle.std.proofs.lemmas.List.{take_at}
-use Rattle.requests.specs.Request.{later_by}
-use Rattle.requests.proofs.Slots.{mid_long}
+use Rattle.std.proofs.Common.{ap, arith}
+use Rattle.requests.specs.Request.{reach_of}
+use Rattle.requests.proofs.Reach.{near_each}
 use Rattle.requests.proofs.pending.Pending.later.Goals as goal
 
-pub invariant_of-self : goal.invariant_of-self
-invariant_of-self c =
-    let p = c.args.self.now in
-    let long : length c.all_later.new.requests ≡ p.many - 0 = omega (arith, ap length c.all_later.ensures.after, length-map (take (p.many - 0) p.items) later_by, length-take (p.many - 0) p.items, p.sixteen, p.within) in
-    record { sixteen = mid_long p.items c.all_later.new.requests 0 (p.many - 0) (omega (arith, p.sixteen, p.within)) long ∙ p.sixteen; within = p.within }
-
-pub returns : goal.returns
-returns c =
-    let p = c.args.self.now in
-    let same : p.many - 0 ≡ p.many = omega arith in
-    let long : length c.all_later.new.requests ≡ p.many = omega (arith, ap length c.all_later.ensures.after, length-map (take (p.many - 0) p.items) later_by, length-take (p.many - 0) p.items, p.sixteen, p.within) in
-    record {
-      waiting = take_at c.all_later.new.requests (drop (p.many - 0) p.items) p.many long ∙ c.all_later.ensures.after ∙ ap (λ n. map later_by (take n p.items)) same;
-    }
+pub all_later-requires : goal.all_later-requires
+all_later-requires c = near_each _ (omega (arith, c.requires, ap reach_of c.self.view_is))
