@@ -1,6 +1,6 @@
--- Bytes xored one after the other, and what a xor and an or of bytes tell.
+-- Bytes xored one after the other.
 use Rattle.std.proofs.Common.{◌≡◌, ℕ, ◌+◌, ◌<◌, ◌≤◌, List, ◌++◌, length, get_or, take, drop, set, ap, ◌∙◌, arith}
-use lib.Bits.{bit_or, bit_xor, and_le_l, and_le_r, or_add_and, xor_add_and}
+use lib.Bits.{bit_xor}
 use Rattle.std.proofs.lemmas.List.Edits.{map_over_more}
 use Rattle.std.proofs.lemmas.List.{append-nil, drop_all, get_or_default, length-append, length-drop, length-map, length-take, take_all}
 use Rattle.digest.specs.Hmac.{xored}
@@ -25,9 +25,3 @@ xored_all mask xs ys i long h is =
     ∙ ap (λ l. xored mask (take i xs) ++ l) (drop_all i xs (omega arith))
     ∙ append-nil (xored mask (take i xs))
     ∙ ap (xored mask) (take_all i xs (omega arith))
-
-pub xor_zero : (a b : ℕ) → bit_xor a b ≡ 0 → a ≡ b
-xor_zero a b h = omega (arith, xor_add_and a b, and_le_l a b, and_le_r a b)
-
-pub or_zero : (a b : ℕ) → bit_or a b ≡ 0 → (a ≡ 0) × (b ≡ 0)
-or_zero a b h = omega (arith, or_add_and a b, and_le_l a b, and_le_r a b)

@@ -21,16 +21,15 @@ fn close(state: State, rest: &[u8], total: u64) -> State
 }
 
 /// The hash of a message that ends with `bytes`, and whose first `done` bytes, which are whole blocks, led to `state`.
-pub(crate) fn finish(mut state: State, done: u64, bytes: &[u8]) -> [u8; 32]
+pub(crate) fn finish(state: State, done: u64, bytes: &[u8]) -> [u8; 32]
     requires { done % 64 ≡ 0 }
     ensures { result ≡ ending state done bytes.now }
 {
     let total = done.wrapping_add(bytes.len() as u64);
-    let mut rest = bytes;
-    while let Some((block, more)) = rest.split_first_chunk::<BLOCK>() {
-        state = state.compress(block);
-        rest = more;
-    }
+    let (blocks, rest) = bytes.as_chunks::<BLOCK>();
+    let state = blocks
+        .iter()
+        .fold(state, |state, block| state.compress(block));
     close(state, rest, total).to_bytes()
 }
 

@@ -21,11 +21,9 @@ mod tests {
 
     fn hex(digest: [u8; 32]) -> [u8; 64] {
         let digits = b"0123456789abcdef";
+        let pairs = digest.map(|byte| [digits[byte as usize / 16], digits[byte as usize % 16]]);
         let mut out = [0; 64];
-        for i in 0..32 {
-            out[2 * i] = digits[digest[i] as usize / 16];
-            out[2 * i + 1] = digits[digest[i] as usize % 16];
-        }
+        out.copy_from_slice(pairs.as_flattened());
         out
     }
 

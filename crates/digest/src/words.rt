@@ -16,6 +16,7 @@ pub(crate) fn maj(x: u32, y: u32, z: u32) -> u32
     (x & y) ^ (x & z) ^ (y & z)
 }
 
+// The four below stay four functions: the standard names each, and numbers as parameters would say no more.
 pub(crate) fn big_sigma0(x: u32) -> u32
     ensures { result ≡ Σ0 x }
 {
