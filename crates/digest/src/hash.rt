@@ -37,6 +37,7 @@ pub(crate) fn finish(state: State, done: u64, bytes: &[u8]) -> [u8; 32]
 ///
 /// The standard speaks of messages below 2^61 bytes. Of a longer one, which no memory holds, the length in the
 /// padding is taken modulo 2^64 bits.
+#[tactic(auto, unfolding(crate::specs::Sha256::sha256, crate::specs::Sha256::ending, crate::specs::Sha256::padded))]
 pub fn sha256(message: &[u8]) -> [u8; 32]
     ensures value { result ≡ sha256 message.now }
 {
@@ -44,6 +45,7 @@ pub fn sha256(message: &[u8]) -> [u8; 32]
 }
 
 /// That the definition of the hash gives the standard's examples, and pads as the standard says: there is nothing to run.
+#[tactic(auto, using(crate::proofs::Standing::vectors, crate::proofs::Standing::laws))]
 pub fn sha256_stands()
     ensures vectors { Vectors }
     ensures laws { Laws }

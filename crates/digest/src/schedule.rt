@@ -28,6 +28,7 @@ fn extend(w: &mut [u32; 64])
 }
 
 /// The 64 words that the rounds take.
+#[tactic(auto, unfolding(crate::specs::Sha256::schedule_of))]
 pub(crate) fn schedule(block: &[u8; 64]) -> [u32; 64]
     ensures { result ≡ schedule_of block.now }
 {

@@ -37,6 +37,7 @@ pub(crate) fn start() -> State
 
 impl State {
     /// One round, with the round's constant and word.
+    #[tactic(auto, using(crate::proofs::Sums::sum5), unfolding(crate::specs::Sha256::round_of, crate::specs::Sha256::temporary1, crate::specs::Sha256::temporary2))]
     fn round(self, k: u32, w: u32) -> State
         ensures { result ≡ round_of self k w }
     {
@@ -60,6 +61,7 @@ impl State {
     }
 
     /// The sum, word by word.
+    #[tactic(auto, unfolding(crate::specs::Sha256::sum_of))]
     fn plus(self, other: State) -> State
         ensures { result ≡ sum_of self other }
     {

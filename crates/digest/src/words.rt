@@ -3,6 +3,7 @@ ghost use Rattle.std.specs.Prelude.{◌≡◌};
 ghost use Rattle.digest.specs.Sha256.{Ch, Maj, Σ0, Σ1, σ0, σ1};
 
 /// Chooses, bit by bit: the bit of `y` where `x` has a 1, else that of `z`.
+#[tactic(auto, unfolding(crate::specs::Sha256::Ch, crate::specs::Sha256::complement))]
 pub(crate) fn ch(x: u32, y: u32, z: u32) -> u32
     ensures { result ≡ Ch x y z }
 {
@@ -10,6 +11,7 @@ pub(crate) fn ch(x: u32, y: u32, z: u32) -> u32
 }
 
 /// The majority, bit by bit, of three words.
+#[tactic(auto, unfolding(crate::specs::Sha256::Maj))]
 pub(crate) fn maj(x: u32, y: u32, z: u32) -> u32
     ensures { result ≡ Maj x y z }
 {

@@ -13,6 +13,7 @@ const SIGNED: usize = 46;
 ///
 /// A message that is accepted was signed by whoever has the key: these 46 bytes, and with this signature. Of a reply those are
 /// its kind, the server, the nonce, the midpoint and the radius.
+#[tactic(auto, using(crate::proofs::Fronts::reply_parts))]
 pub fn accepts_reply<S: Signatures>(signatures: &S, key: &[u8; 32], message: &[u8]) -> bool
     ensures decides { Decides result ((length message.now ≡ 110) × S.Signatures.valid key.now (take 46 message.now) (drop 46 message.now)) }
     ensures signed { result ≡ true → S.Signatures.signed key.now (take 46 message.now) (drop 46 message.now) }
