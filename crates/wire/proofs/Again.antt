@@ -177,9 +177,6 @@ mark_again bs m b h = sized bs 0 _ _ Malformed m _ refl h (λ l e. ap Inputs.byt
 event_again : (bs : List ℕ) (m : Message) → Bytes bs → event_of bs ≡ Ok m → Inputs.bytes_of m ≡ 20 ∷ bs
 event_again bs m b h = sized bs 8 _ _ Malformed m _ refl h (λ l e. ap Inputs.bytes_of (sym (value_of e)) ∙ ap (λ r. 20 ∷ r) (eight_last 0 bs b l))
 
-pub of_kind : (xs bs : List ℕ) (k n : ℕ) → eqb k n ≡ true → xs ≡ n ∷ bs → xs ≡ k ∷ bs
-of_kind xs bs k n h e = e ∙ ap (λ z. z ∷ bs) (sym (eqb-true k n h))
-
 kind_from : (n : ℕ) (k : Kind) → kind_of n ≡ Some k → n ≡ Kinds.number_of k
 kind_from n k is = grind (arith, nat_tests)
 
