@@ -25,11 +25,11 @@ pub no_run : (bs : List ℕ) → length bs < 16 → runs_of bs ≡ []
 unfolding runs_from
 no_run bs h = let none : length bs / 16 ≡ 0 = omega arith in ap (λ n. runs_from n bs) none
 
-pub one_run : (bs r1 r2 : List ℕ) (from to : ℕ) → from ≡ number8 bs → Left 8 bs r1 → to ≡ number8 r1 → Left 8 r1 r2
-    → runs_of bs ≡ record { from = from; to = to } ∷ runs_of r2
+pub one_run : (bs r1 r2 : List ℕ) (lo hi : ℕ) → lo ≡ number8 bs → Left 8 bs r1 → hi ≡ number8 r1 → Left 8 r1 r2
+    → runs_of bs ≡ record { lo = lo; hi = hi } ∷ runs_of r2
 unfolding runs_from
-one_run bs r1 r2 from to f p1 t p2 =
+one_run bs r1 r2 lo hi f p1 t p2 =
     let at2 = left_then 8 8 bs r1 r2 p1 p2 in
     let more : length bs / 16 ≡ suc (length r2 / 16) = omega arith in
-    let to_is : to ≡ number8 (drop 8 bs) = t ∙ ap number8 p1.0 in
-    ap (λ n. runs_from n bs) more ∙ (rw (at2.0, f, to_is) refl)
+    let hi_is : hi ≡ number8 (drop 8 bs) = t ∙ ap number8 p1.0 in
+    ap (λ n. runs_from n bs) more ∙ (rw (at2.0, f, hi_is) refl)

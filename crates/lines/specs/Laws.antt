@@ -9,11 +9,11 @@ use Rattle.wire.specs.declared.refusal.Refusal.{Refusal}
 use Rattle.lines.specs.Lines.{Entry, request, heard, reckoned, marked, said, asked, refused, hand, bytes_of, entry_from}
 use Rattle.lines.specs.Kinds.{kind_of, number_of}
 use Rattle.lines.specs.declared.line.Kind.{Kind}
-use Rattle.lines.specs.declared.line.Run.{Run}
+use Rattle.choice.specs.declared.runs.Run.{Run}
 
 unfoldable pub RunsFit : List Run → Type 0
 RunsFit [] = Unit {0}
-RunsFit (r ∷ rs) = (r.from < 2 ^ 64) × (r.to < 2 ^ 64) × RunsFit rs
+RunsFit (r ∷ rs) = (r.lo < 2 ^ 64) × (r.hi < 2 ^ 64) × RunsFit rs
 
 -- a line whose parts fit the places that they have in its bytes
 abbrev pub EntryFits : Entry → Type 0

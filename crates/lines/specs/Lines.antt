@@ -9,7 +9,7 @@ use Rattle.wire.specs.declared.refusal.Refusal.{Refusal}
 use Rattle.wire.specs.declared.refusal.Refusal.TheVariants.{Malformed}
 use Rattle.lines.specs.declared.line.Request.{Request}
 use Rattle.lines.specs.declared.line.Heard.{Heard}
-use Rattle.lines.specs.declared.line.Run.{Run}
+use Rattle.choice.specs.declared.runs.Run.{Run}
 use Rattle.lines.specs.declared.line.Said.{Said}
 use Rattle.lines.specs.declared.line.Asked.{Asked}
 use Rattle.lines.specs.declared.line.Hand.{Hand}
@@ -37,13 +37,13 @@ pub data Entry : Type 0 where
 -- the runs that bytes are, 16 bytes each
 unfoldable pub runs_from : ℕ → List ℕ → List Run
 runs_from zero bs = []
-runs_from (suc n) bs = record { from = number8 bs; to = number8 (drop 8 bs) } ∷ runs_from n (drop 16 bs)
+runs_from (suc n) bs = record { lo = number8 bs; hi = number8 (drop 8 bs) } ∷ runs_from n (drop 16 bs)
 
 abbrev pub runs_of : List ℕ → List Run
 runs_of bs = runs_from (length bs / 16) bs
 
 abbrev pub run_bytes : Run → List ℕ
-run_bytes r = be8 r.from ++ be8 r.to
+run_bytes r = be8 r.lo ++ be8 r.hi
 
 -- the line that the code's value stands for
 abbrev pub entry_of : Line → Entry

@@ -8,6 +8,7 @@ ghost use Rattle.lines.specs.Lines.{request_of, heard_of, reckoned_of, said_of, 
 ghost use Rattle.wire.specs.declared.refusal.Refusal.TheVariants.{Malformed};
 ghost use Rattle.lines.specs.Laws.{EntryLaws};
 
+use choice::runs::Run;
 use wire::number::{read_number, split_number};
 use wire::refusal::Refusal;
 
@@ -27,13 +28,6 @@ pub struct Heard {
     pub server: u8,
     pub least: u64,
     pub greatest: u64,
-}
-
-/// The times from one to another.
-#[derive(Clone, Copy)]
-pub struct Run {
-    pub from: u64,
-    pub to: u64,
 }
 
 /// At a count the box reckoned in which runs the time can be, and which servers are named as faulty: bit h of `named`
@@ -257,7 +251,7 @@ pub fn read_entry(bytes: &[u8]) -> Result<Line<'_>, Refusal>
 pub fn next_run(runs: &[u8]) -> Option<(Run, &[u8])>
     ensures cases { MatchOption result (runs_of runs.now ≡ []) (λ p. runs_of runs.now ≡ p.0 ∷ runs_of p.1.now) }
 {
-    let (from, rest) = split_number(runs)?;
-    let (to, rest) = split_number(rest)?;
-    Some((Run { from, to }, rest))
+    let (lo, rest) = split_number(runs)?;
+    let (hi, rest) = split_number(rest)?;
+    Some((Run { lo, hi }, rest))
 }

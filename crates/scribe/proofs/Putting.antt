@@ -6,7 +6,7 @@ use Rattle.std.proofs.lemmas.List.{append_assoc, append-nil, drop_all, drop_at, 
 use Rattle.lines.specs.Lines.{run_bytes}
 use Rattle.wire.specs.Numbers.{be2, be8}
 use Rattle.lines.proofs.Runs.{length_runs}
-use Rattle.lines.specs.declared.line.Run.{Run}
+use Rattle.choice.specs.declared.runs.Run.{Run}
 
 -- a part after those that are written
 pub next_part : (fs bs xs ys : List ℕ) (n k m : ℕ) → length fs ≡ n → m ≡ n + k → ys ≡ fs ++ drop n xs → put_mid n k ys bs ≡ (fs ++ bs) ++ drop m xs

@@ -4,7 +4,8 @@ ghost use Rattle.std.specs.List.{flat_map};
 ghost use Rattle.lines.specs.Lines.{bytes_of, request, heard, reckoned, marked, said, asked, refused, hand, run_bytes};
 ghost use Rattle.scribe.specs.Room.{room};
 
-use lines::line::{Asked, Hand, Heard, Kind, Request, Run, Said};
+use choice::runs::Run;
+use lines::line::{Asked, Hand, Heard, Kind, Request, Said};
 use wire::refusal::Refusal;
 
 /// The message that asks a server.
@@ -88,8 +89,8 @@ fn run_bytes(run: &Run) -> [u8; 16]
     ensures value { result ≡ run_bytes run.now }
 {
     let mut out = [0; 16];
-    out[0..8].copy_from_slice(&run.from.to_be_bytes());
-    out[8..16].copy_from_slice(&run.to.to_be_bytes());
+    out[0..8].copy_from_slice(&run.lo.to_be_bytes());
+    out[8..16].copy_from_slice(&run.hi.to_be_bytes());
     out
 }
 
