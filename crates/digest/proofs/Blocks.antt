@@ -1,12 +1,14 @@
 -- A message as blocks: the first block and the rest, and the last ones with the padding.
-use Rattle.std.proofs.Common.{◌≡◌, ℕ, suc, ◌+◌, ◌-◌, ◌*◌, ◌/◌, ◌%◌, ◌^◌, ◌<◌, ◌≤◌, List, [], ◌∷◌, ◌++◌, length, take, drop, replicate, sym, refl, ap, ◌∙◌, arith}
+use Rattle.std.proofs.Common.{◌≡◌, ℕ, zero, suc, ◌+◌, ◌-◌, ◌*◌, ◌/◌, ◌%◌, ◌^◌, ◌<◌, ◌≤◌, List, [], ◌∷◌, ◌++◌, length, take, drop, replicate, sym, refl, ap, ◌∙◌, arith}
 use native.Mathlib.Nat.{div-add-mod, mul-add-mod_self_left}
-use Rattle.std.proofs.lemmas.List.{append_assoc, append-nil, drop_at, length-append, length-replicate, length-take, length-take-le, replicate-append-replicate, take-append-drop, take_at}
+use Rattle.std.specs.List.{fold}
+use Rattle.std.specs.Simd.{first_chunks}
+use Rattle.std.proofs.lemmas.List.{append_assoc, append-nil, drop_at, drop-drop, length-append, length-drop, length-replicate, length-take, length-take-le, replicate-append-replicate, take-append-drop, take_at}
 use Rattle.digest.specs.declared.state.State.{State}
 use Rattle.digest.specs.Sha256.{absorbed, absorbed_all, be64, compressed, ending, padded, padding, sha256, start, state_bytes, zeros}
 
 -- one block, and then the rest
-pub absorbed_block :
+absorbed_block :
     (s : State) (b x : List ℕ) → length b ≡ 64 → absorbed_all s (b ++ x) ≡ absorbed_all (compressed s b) x
 unfolding absorbed_all absorbed
 absorbed_block s b x long =
@@ -19,7 +21,7 @@ absorbed_block s b x long =
     cc
 
 -- one block, and nothing else
-pub absorbed_one : (s : State) (b : List ℕ) → length b ≡ 64 → absorbed_all s b ≡ compressed s b
+absorbed_one : (s : State) (b : List ℕ) → length b ≡ 64 → absorbed_all s b ≡ compressed s b
 unfolding absorbed_all absorbed
 absorbed_one s b long = ap (absorbed_all s) (sym (append-nil b)) ∙ absorbed_block s b [] long
 
@@ -27,10 +29,10 @@ absorbed_one s b long = ap (absorbed_all s) (sym (append-nil b)) ∙ absorbed_bl
 abbrev pub mark : List ℕ → List ℕ
 mark rest = rest ++ 0x80 ∷ replicate (63 - length rest) 0
 
-pub mark_long : (rest : List ℕ) → length rest < 64 → length (mark rest) ≡ 64
+mark_long : (rest : List ℕ) → length rest < 64 → length (mark rest) ≡ 64
 mark_long rest h = simp (length-append, length-replicate) (omega arith)
 
-pub closed_long : (b : List ℕ) (x : ℕ) → length b ≡ 64 → length (take 56 b ++ be64 x) ≡ 64
+closed_long : (b : List ℕ) (x : ℕ) → length b ≡ 64 → length (take 56 b ++ be64 x) ≡ 64
 unfolding be64
 closed_long b x long = simp (length-append, length-take) (omega arith)
 
@@ -68,14 +70,14 @@ unfolding padding
 padding_is n = let bits : 8 * n ≡ n * 8 = omega arith in ap (λ x. 0x80 ∷ (blank (zeros n) ++ be64 (x % 2 ^ 64))) bits
 
 -- what is left of a message and its padding as one block, or as two
-pub ends_short :
+ends_short :
     (rest : List ℕ) (n : ℕ) → length rest ≡ n % 64 → length rest < 56
     → rest ++ padding n ≡ take 56 (mark rest) ++ be64 ((n * 8) % 2 ^ 64)
 unfolding zeros
 ends_short rest n is h =
     ap (λ l. rest ++ l) (padding_is n) ∙ fits_one rest (be64 ((n * 8) % 2 ^ 64)) (zeros n) (omega arith)
 
-pub ends_long :
+ends_long :
     (rest : List ℕ) (n : ℕ) → length rest ≡ n % 64 → 56 ≤ length rest
     → rest ++ padding n ≡ mark rest ++ (blank 56 ++ be64 ((n * 8) % 2 ^ 64))
 unfolding zeros
@@ -119,16 +121,25 @@ close_long s rest a b n is h first second =
     ∙ sym (absorbed_block s (mark rest) last (mark_long rest (omega arith)))
     ∙ ap (absorbed_all s) (sym (ends_long rest n is h))
 
--- the first block of what is left, and what is left then
-pub absorbed_more :
-    (s : State) (rest b more tail : List ℕ) → b ≡ take 64 rest → more ≡ drop 64 rest → 64 ≤ length rest
-    → absorbed_all (compressed s b) (more ++ tail) ≡ absorbed_all s (rest ++ tail)
-absorbed_more s rest b more tail front back h =
-    let long : length b ≡ 64 = ap length front ∙ length-take-le 64 rest h in
-    let both : b ++ more ≡ rest = ap (λ l. l ++ more) front ∙ ap (λ l. take 64 rest ++ l) back ∙ take-append-drop 64 rest in
-    sym (absorbed_block s b (more ++ tail) long)
-    ∙ ap (absorbed_all s) (sym (append_assoc b more tail))
-    ∙ ap (λ l. absorbed_all s (l ++ tail)) both
+-- the first block, and what is left then
+absorbed_first :
+    (s : State) (m tail : List ℕ) → 64 ≤ length m
+    → absorbed_all s (m ++ tail) ≡ absorbed_all (compressed s (take 64 m)) (drop 64 m ++ tail)
+absorbed_first s m tail h =
+    ap (λ l. absorbed_all s (l ++ tail)) (sym (take-append-drop 64 m))
+    ∙ ap (absorbed_all s) (append_assoc (take 64 m) (drop 64 m) tail)
+    ∙ absorbed_block s (take 64 m) (drop 64 m ++ tail) (length-take-le 64 m h)
+
+-- so many blocks, and what is left then
+pub absorbed_chunks :
+    (n : ℕ) (s : State) (m tail : List ℕ) → n * 64 ≤ length m
+    → absorbed_all s (m ++ tail) ≡ absorbed_all (fold compressed s (first_chunks 64 n m)) (drop (n * 64) m ++ tail)
+absorbed_chunks zero s m tail h = refl
+absorbed_chunks (suc n) s m tail h =
+    absorbed_first s m tail (omega arith)
+    ∙ absorbed_chunks n (compressed s (take 64 m)) (drop 64 m) tail (omega (arith, length-drop 64 m))
+    ∙ ap (λ l. absorbed_all (fold compressed (compressed s (take 64 m)) (first_chunks 64 n (drop 64 m))) (l ++ tail))
+    (drop-drop (n * 64) 64 m ∙ ap (λ k. drop k m) (omega arith))
 
 -- a message that begins with a block, from the state after that block
 pub ending_block : (b m : List ℕ) → length b ≡ 64 → ending (compressed start b) 64 m ≡ sha256 (b ++ m)

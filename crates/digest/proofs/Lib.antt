@@ -1,6 +1,9 @@
 -- Lemmas that the answers cite.
 mod Blocks
+mod Chunks
+mod Differing
 mod Extending
+mod Mapped
 mod Masks
 mod Rounds
 mod Standing

@@ -1,8 +1,8 @@
--- Bytes xored one after the other, and what a xor and an or of bytes tell.
-use Rattle.std.proofs.Common.{◌≡◌, ℕ, ◌+◌, ◌<◌, ◌≤◌, List, ◌++◌, length, get_or, take, drop, set, ap, ◌∙◌, arith}
-use lib.Bits.{bit_or, bit_xor, and_le_l, and_le_r, or_add_and, xor_add_and}
+-- Bytes xored one after the other.
+use Rattle.std.proofs.Common.{◌≡◌, ℕ, ◌+◌, ◌<◌, List, ◌++◌, length, get_or, take, drop, set, ap, ◌∙◌, arith}
+use lib.Bits.{bit_xor}
 use Rattle.std.proofs.lemmas.List.Edits.{map_over_more}
-use Rattle.std.proofs.lemmas.List.{append-nil, drop_all, get_or_default, length-append, length-drop, length-map, length-take, take_all}
+use Rattle.std.proofs.lemmas.List.{get_or_default, length-append, length-drop, length-map, length-take}
 use Rattle.digest.specs.Hmac.{xored}
 
 pub xored_long : (mask : ℕ) (xs : List ℕ) → length (xored mask xs) ≡ length xs
@@ -16,18 +16,3 @@ unfolding xored
 xored_more mask xs ys i long h is =
     let same : length ys ≡ 64 = ap length is ∙ simp (length-append, length-map, length-take, length-drop) (omega arith) in
     map_over_more (λ b. bit_xor b mask) xs ys i (get_or ys i 0) (omega arith) is (get_or_default ys i 0 (get_or ys i 0) (omega arith))
-
-pub xored_all :
-    (mask : ℕ) (xs ys : List ℕ) (i : ℕ) → length xs ≡ 64 → 64 ≤ i → ys ≡ xored mask (take i xs) ++ drop i xs
-    → ys ≡ xored mask xs
-xored_all mask xs ys i long h is =
-    is
-    ∙ ap (λ l. xored mask (take i xs) ++ l) (drop_all i xs (omega arith))
-    ∙ append-nil (xored mask (take i xs))
-    ∙ ap (xored mask) (take_all i xs (omega arith))
-
-pub xor_zero : (a b : ℕ) → bit_xor a b ≡ 0 → a ≡ b
-xor_zero a b h = omega (arith, xor_add_and a b, and_le_l a b, and_le_r a b)
-
-pub or_zero : (a b : ℕ) → bit_or a b ≡ 0 → (a ≡ 0) × (b ≡ 0)
-or_zero a b h = omega (arith, or_add_and a b, and_le_l a b, and_le_r a b)

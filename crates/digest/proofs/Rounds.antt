@@ -1,27 +1,14 @@
--- The rounds of a block, one after the other.
-use Rattle.std.proofs.Common.{◌≡◌, ℕ, ◌+◌, ◌<◌, ◌≤◌, List, [], ◌∷◌, length, get_or, drop, refl, arith}
-use Rattle.std.proofs.lemmas.List.{drop_all, drop_more}
+-- The rounds of a block as a fold over the constants and words.
+use Rattle.std.proofs.Common.{◌≡◌, ℕ, List, [], ◌∷◌, refl}
+use Rattle.std.specs.List.{fold, zip}
 use Rattle.digest.specs.declared.state.State.{State}
-use Rattle.digest.specs.Sha256.{constants, round_of, rounds}
+use Rattle.digest.specs.Sha256.{round_of, rounds}
 
-many : length constants ≡ 64
-unfolding constants
-many = refl
+abbrev pub round_at : State → ℕ × ℕ → State
+round_at s p = round_of s p.0 p.1
 
-pub rounds_more :
-    (s : State) (w : List ℕ) (t : ℕ) → length w ≡ 64 → t < 64
-    → rounds s (drop t constants) (drop t w)
-    ≡ rounds (round_of s (get_or constants t 0) (get_or w t 0)) (drop (t + 1) constants) (drop (t + 1) w)
+pub rounds_fold : (s : State) (ks ws : List ℕ) → fold round_at s (zip ks ws) ≡ rounds s ks ws
 unfolding rounds
-rounds_more s w t long h =
-    let n = many in
-    let ks : drop t constants ≡ get_or constants t 0 ∷ drop (t + 1) constants = drop_more constants t 0 (omega arith) in
-    let ws : drop t w ≡ get_or w t 0 ∷ drop (t + 1) w = drop_more w t 0 (omega arith) in
-    simp (ks, ws) refl
-
-pub rounds_all : (s : State) (w : List ℕ) (t : ℕ) → 64 ≤ t → rounds s (drop t constants) (drop t w) ≡ s
-unfolding rounds
-rounds_all s w t h =
-    let n = many in
-    let none : drop t constants ≡ [] = drop_all t constants (omega arith) in
-    simp none refl
+rounds_fold s [] ws = refl
+rounds_fold s (k ∷ ks) [] = refl
+rounds_fold s (k ∷ ks) (w ∷ ws) = rounds_fold (round_of s k w) ks ws

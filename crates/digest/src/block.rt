@@ -10,6 +10,7 @@ pub(crate) const BLOCK: usize = 64;
 pub(crate) const LENGTH_AT: usize = 56;
 
 /// A block that begins with `bytes`, and then has zeros.
+#[tactic(auto, using(crate::proofs::Writes::put_front))]
 pub(crate) fn to_block(bytes: &[u8]) -> [u8; 64]
     requires { length bytes.now ≤ 64 }
     ensures { result ≡ to_block bytes.now }
@@ -20,6 +21,7 @@ pub(crate) fn to_block(bytes: &[u8]) -> [u8; 64]
 }
 
 /// A block that begins with `rest`, then the byte that ends a message, then zeros.
+#[tactic(auto, using(crate::proofs::Writes::put_mark))]
 pub(crate) fn marked(rest: &[u8]) -> [u8; 64]
     requires { length rest.now < 64 }
     ensures { result ≡ rest.now ++ 0x80 ∷ replicate (63 - length rest.now) 0 }

@@ -21,16 +21,15 @@ fn close(state: State, rest: &[u8], total: u64) -> State
 }
 
 /// The hash of a message that ends with `bytes`, and whose first `done` bytes, which are whole blocks, led to `state`.
-pub(crate) fn finish(mut state: State, done: u64, bytes: &[u8]) -> [u8; 32]
+pub(crate) fn finish(state: State, done: u64, bytes: &[u8]) -> [u8; 32]
     requires { done % 64 ≡ 0 }
     ensures { result ≡ ending state done bytes.now }
 {
     let total = done.wrapping_add(bytes.len() as u64);
-    let mut rest = bytes;
-    while let Some((block, more)) = rest.split_first_chunk::<BLOCK>() {
-        state = state.compress(block);
-        rest = more;
-    }
+    let (blocks, rest) = bytes.as_chunks::<BLOCK>();
+    let state = blocks
+        .iter()
+        .fold(state, |state, block| state.compress(block));
     close(state, rest, total).to_bytes()
 }
 
@@ -38,6 +37,7 @@ pub(crate) fn finish(mut state: State, done: u64, bytes: &[u8]) -> [u8; 32]
 ///
 /// The standard speaks of messages below 2^61 bytes. Of a longer one, which no memory holds, the length in the
 /// padding is taken modulo 2^64 bits.
+#[tactic(auto, unfolding(crate::specs::Sha256::sha256, crate::specs::Sha256::ending, crate::specs::Sha256::padded))]
 pub fn sha256(message: &[u8]) -> [u8; 32]
     ensures value { result ≡ sha256 message.now }
 {
@@ -45,6 +45,7 @@ pub fn sha256(message: &[u8]) -> [u8; 32]
 }
 
 /// That the definition of the hash gives the standard's examples, and pads as the standard says: there is nothing to run.
+#[tactic(auto, using(crate::proofs::Standing::vectors, crate::proofs::Standing::laws))]
 pub fn sha256_stands()
     ensures vectors { Vectors }
     ensures laws { Laws }

@@ -14,6 +14,7 @@ const IPAD: u8 = 0x36;
 const OPAD: u8 = 0x5c;
 
 /// The key as a block: a key that is longer than one is hashed first.
+#[tactic(auto, unfolding(crate::specs::Hmac::short_key))]
 fn key_block(key: &[u8]) -> [u8; 64]
     ensures { result ≡ to_block (short_key key.now) }
 {
@@ -35,6 +36,7 @@ fn keyed(block: [u8; 64], mask: u8, bytes: &[u8]) -> [u8; 32]
 /// The HMAC-SHA-256 of a message under a key of any length.
 ///
 /// Compare it with a code that came from outside by `same`, which reads both to the end wherever they differ.
+#[tactic(auto, unfolding(crate::specs::Hmac::hmac))]
 pub fn hmac_sha256(key: &[u8], message: &[u8]) -> [u8; 32]
     ensures value { result ≡ hmac key.now message.now }
 {
@@ -44,6 +46,7 @@ pub fn hmac_sha256(key: &[u8], message: &[u8]) -> [u8; 32]
 }
 
 /// That the definition of the code gives the RFC's test cases: there is nothing to run.
+#[tactic(auto, using(crate::proofs::Standing::cases))]
 pub fn hmac_stands()
     ensures cases { TestCases }
 {}

@@ -37,6 +37,7 @@ pub(crate) fn start() -> State
 
 impl State {
     /// One round, with the round's constant and word.
+    #[tactic(auto, using(crate::proofs::Sums::sum5), unfolding(crate::specs::Sha256::round_of, crate::specs::Sha256::temporary1, crate::specs::Sha256::temporary2))]
     fn round(self, k: u32, w: u32) -> State
         ensures { result ≡ round_of self k w }
     {
@@ -60,6 +61,7 @@ impl State {
     }
 
     /// The sum, word by word.
+    #[tactic(auto, unfolding(crate::specs::Sha256::sum_of))]
     fn plus(self, other: State) -> State
         ensures { result ≡ sum_of self other }
     {
@@ -79,11 +81,11 @@ impl State {
     pub(crate) fn compress(self, block: &[u8; 64]) -> State
         ensures { result ≡ compressed self block.now }
     {
-        let w = schedule(block);
-        let mut working = self;
-        for t in 0..64 {
-            working = working.round(K[t], w[t]);
-        }
+        let words = schedule(block);
+        let working = K
+            .iter()
+            .zip(&words)
+            .fold(self, |working, (k, w)| working.round(*k, *w));
         working.plus(self)
     }
 
@@ -95,9 +97,7 @@ impl State {
             self.a, self.b, self.c, self.d, self.e, self.f, self.g, self.h,
         ];
         let mut out = [0; 32];
-        for i in 0..8 {
-            out[4 * i..4 * i + 4].copy_from_slice(&words[i].to_be_bytes());
-        }
+        out.copy_from_slice(words.map(u32::to_be_bytes).as_flattened());
         out
     }
 }

@@ -3,6 +3,7 @@ ghost use Rattle.std.specs.Prelude.{◌≡◌};
 ghost use Rattle.digest.specs.Sha256.{Ch, Maj, Σ0, Σ1, σ0, σ1};
 
 /// Chooses, bit by bit: the bit of `y` where `x` has a 1, else that of `z`.
+#[tactic(auto, unfolding(crate::specs::Sha256::Ch, crate::specs::Sha256::complement))]
 pub(crate) fn ch(x: u32, y: u32, z: u32) -> u32
     ensures { result ≡ Ch x y z }
 {
@@ -10,12 +11,14 @@ pub(crate) fn ch(x: u32, y: u32, z: u32) -> u32
 }
 
 /// The majority, bit by bit, of three words.
+#[tactic(auto, unfolding(crate::specs::Sha256::Maj))]
 pub(crate) fn maj(x: u32, y: u32, z: u32) -> u32
     ensures { result ≡ Maj x y z }
 {
     (x & y) ^ (x & z) ^ (y & z)
 }
 
+// The four below stay four functions: the standard names each, and numbers as parameters would say no more.
 pub(crate) fn big_sigma0(x: u32) -> u32
     ensures { result ≡ Σ0 x }
 {

@@ -10,6 +10,7 @@ use std::alloc::Global;
 use std::io::{BufRead, BufReader, BufWriter, Write};
 
 /// The value of a digit.
+// By hand: the kit's and the repository's readers of hex take capital letters too, which no text here may have.
 fn value(character: u8) -> anyhow::Result<u8>
     ensures { MatchResult result (λ d. (d < 16) × (digit d ≡ character)) (λ _. (d : ℕ) → d < 16 → digit d ≢ character) }
 {
@@ -21,10 +22,10 @@ fn value(character: u8) -> anyhow::Result<u8>
 }
 
 /// The bytes that a text in hex stands for.
-fn from_hex(heap: Global, text: &[u8]) -> anyhow::Result<Vec<u8>>
+fn from_hex(alloc: Global, text: &[u8]) -> anyhow::Result<Vec<u8>>
     ensures { IfOk result (λ v. hex_of v.items ≡ text.now) }
 {
-    let mut bytes = Vec::new(heap);
+    let mut bytes = Vec::new(alloc);
     let mut left = text;
     while let [high, low, rest @ ..] = left {
         let x = value(*high)?;
@@ -39,32 +40,31 @@ fn from_hex(heap: Global, text: &[u8]) -> anyhow::Result<Vec<u8>>
 }
 
 /// The SHA-256 of the message that `text` stands for.
-fn hashed(heap: Global, text: &[u8]) -> anyhow::Result<[u8; 32]>
+fn hashed(alloc: Global, text: &[u8]) -> anyhow::Result<[u8; 32]>
     ensures { IfOk result (λ d. Hashed text.now d) }
 {
-    let message = from_hex(heap, text)?;
+    let message = from_hex(alloc, text)?;
     Ok(sha256(&message))
 }
 
 /// The HMAC-SHA-256 of the message that `text` stands for, under the key that `key` stands for.
-fn coded(heap: Global, key: &[u8], text: &[u8]) -> anyhow::Result<[u8; 32]>
+fn coded(alloc: Global, key: &[u8], text: &[u8]) -> anyhow::Result<[u8; 32]>
     ensures { IfOk result (λ d. Coded key.now text.now d) }
 {
-    let secret = from_hex(heap, key)?;
-    let message = from_hex(heap, text)?;
+    let secret = from_hex(alloc, key)?;
+    let message = from_hex(alloc, text)?;
     Ok(hmac_sha256(&secret, &message))
 }
 
 /// The answer to a line: the code where it has a key before a space, else the hash.
-fn answer(heap: Global, line: &str) -> anyhow::Result<[u8; 32]> {
+fn answer(alloc: Global, line: &str) -> anyhow::Result<[u8; 32]> {
     match line.split_once(' ') {
-        Some((key, message)) => coded(heap, key.as_bytes(), message.as_bytes()),
-        None => hashed(heap, line.as_bytes()),
+        Some((key, message)) => coded(alloc, key.as_bytes(), message.as_bytes()),
+        None => hashed(alloc, line.as_bytes()),
     }
 }
 
-/// Answers each line of the input.
-fn run(rt: &HostRuntime) -> anyhow::Result<()> {
+fn main(rt: HostRuntime) -> anyhow::Result<()> {
     let mut out = BufWriter::new(rt.alloc(), rt.stdout())?;
     for line in BufReader::new(rt.alloc(), rt.stdin())?.lines(rt.alloc()) {
         for byte in answer(rt.alloc(), line?.as_str())? {
@@ -74,8 +74,4 @@ fn run(rt: &HostRuntime) -> anyhow::Result<()> {
     }
     out.flush()?;
     Ok(())
-}
-
-fn main(rt: HostRuntime) -> anyhow::Result<()> {
-    run(&rt)
 }

@@ -1,5 +1,5 @@
 -- Lines of text are read back, in either case, and cut at their ends.
-use Rattle.std.proofs.Common.{◌≡◌, ℕ, ◌+◌, ◌*◌, ◌/◌, ◌%◌, ◌<◌, Bool, true, false, cond, ◌&&◌, eqb, leb, List, [], ◌∷◌, ◌++◌, map, length, Ok, Err, sym, refl, ap, ◌∙◌, subst, arith}
+use Rattle.std.proofs.Common.{◌≡◌, ℕ, ◌+◌, ◌*◌, ◌/◌, ◌%◌, ◌<◌, Bool, true, false, cond, ◌&&◌, eqb, leb, ltb, List, [], ◌∷◌, ◌++◌, map, length, Ok, Err, sym, refl, ap, ◌∙◌, subst, arith}
 use Rattle.std.proofs.lemmas.Bool.Decides.{nat_tests}
 use Rattle.hextext.specs.Hex.{all_digits, begun, char_of, digit_of, hex_of, lines_of, pairs, readable}
 use Rattle.wire.specs.Laws.{Bytes}
@@ -17,8 +17,8 @@ lowered_char d h = grind (arith, nat_tests)
 no_end : (d : ℕ) → eqb (char_of d) 10 ≡ false
 no_end d = grind (arith, nat_tests)
 
-small_digit : (x d : ℕ) → digit_of x ≡ d → d < 16 → leb (digit_of x) 15 ≡ true
-small_digit x d e h = subst (λ n. leb n 15 ≡ true) (sym e) (grind (arith, nat_tests))
+small_digit : (x d : ℕ) → digit_of x ≡ d → d < 16 → ltb (digit_of x) 16 ≡ true
+small_digit x d e h = subst (λ n. ltb n 16 ≡ true) (sym e) (grind (arith, nat_tests))
 
 -- the pairs of a text that is the digits of bytes, but for capital letters
 record Reads (text bs : List ℕ) : Type 0 where
@@ -27,7 +27,7 @@ record Reads (text bs : List ℕ) : Type 0 where
   long : length text ≡ 2 * length bs
 
 reads : (bs text : List ℕ) → Bytes bs → map lowered text ≡ hex_of bs → Reads text bs
-unfolding all_digits pairs Bytes
+unfolding pairs Bytes
 reads [] [] b e = record { same = refl; digits = refl; long = refl }
 reads [] (c ∷ cs) b e = let z : ◌≡◌ {A = ℕ} 0 1 = cc in absurd (omega arith)
 reads (b ∷ bs) [] h e = let z : ◌≡◌ {A = ℕ} 0 1 = cc in absurd (omega arith)
@@ -42,7 +42,7 @@ reads (b ∷ bs) (x ∷ (y ∷ cs)) (small, h) e =
     record {
       same = ap (λ n. n ∷ pairs cs) byte ∙ ap (λ l. b ∷ l) ih.same;
       digits =
-          ap (λ t. t && (leb (digit_of y) 15 && all_digits cs)) (small_digit x (b / 16) dx (omega arith))
+          ap (λ t. t && (ltb (digit_of y) 16 && all_digits cs)) (small_digit x (b / 16) dx (omega arith))
           ∙ ap (λ t. t && all_digits cs) (small_digit y (b % 16) dy (omega arith))
           ∙ ih.digits;
       long = let l = ih.long in omega arith;

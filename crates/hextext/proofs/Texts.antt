@@ -1,8 +1,10 @@
 -- Digits, pairs of digits and lines: the steps of the loops over them.
-use Rattle.std.proofs.Common.{◌≡◌, ℕ, zero, suc, ◌+◌, ◌-◌, ◌*◌, ◌/◌, ◌%◌, ◌<◌, ◌≤◌, Bool, true, false, cond, ◌&&◌, eqb, leb, List, [], ◌∷◌, ◌++◌, length, get_or, take, drop, set, sym, refl, ap, ◌∙◌, subst, arith}
-use Rattle.std.proofs.lemmas.List.{append_assoc, at_drop_more, at_drop_all, drop_all, drop-drop, drop_more, nil_from_length, flat_map_more, length-append, length-take-le, set_at, take_at, take_more, take_rest}
-use Rattle.std.proofs.lemmas.Bool.{eqb-true, ne_eqb}
+use Rattle.std.proofs.Common.{◌≡◌, ℕ, zero, suc, ◌+◌, ◌-◌, ◌*◌, ◌/◌, ◌%◌, ◌<◌, ◌≤◌, Bool, true, false, cond, not, ◌&&◌, eqb, ltb, Option, Some, None, unwrap_or, List, [], ◌∷◌, ◌++◌, length, get_or, take, drop, set, sym, refl, ap, ◌∙◌, add-zero, arith}
+use Rattle.std.proofs.lemmas.List.{append_assoc, drop_all, get_or-drop, get_or-take, drop-drop, drop_more, nil_from_length, flat_map_more, length-append, length-take-le, set_at, take_at, take_more, take_rest}
+use Rattle.std.proofs.lemmas.List.Sums.{prefix_len-le-length}
+use Rattle.std.proofs.lemmas.Bool.{eqb-true}
 use Rattle.std.proofs.lemmas.Bool.Decides.{nat_tests}
+use Rattle.std.specs.Simd.{first_chunks}
 use Rattle.hextext.specs.Hex.{after_line, all_digits, begun, byte_text, char_of, digit_of, first_line, hex_of, line_length, lines_of, pairs}
 
 -- a table of digits from a number up to 255
@@ -23,32 +25,15 @@ pub digit_read : (xs : List ℕ) (c : ℕ) → tabled 0 xs ≡ true → c < 256 
 digit_read xs c h l = let e : 0 + c ≡ c = omega arith in tabled_at 0 xs c h (omega arith) ∙ ap digit_of e
 
 -- every character is a digit
-pub digits_more : (text : List ℕ) (i d : ℕ) → i < length text → d ≡ digit_of (get_or text i 0) → d ≤ 15 → all_digits (drop i text) ≡ all_digits (drop (i + 1) text)
-unfolding all_digits
-digits_more text i d h e small =
-    let good : leb (digit_of (get_or text i 0)) 15 ≡ true = subst (λ x. leb x 15 ≡ true) e (grind (arith, nat_tests)) in
-    at_drop_more all_digits text i 0 h ∙ ap (λ b. b && all_digits (drop (i + 1) text)) good
-
-pub digits_stop : (text : List ℕ) (i d : ℕ) → i < length text → d ≡ digit_of (get_or text i 0) → 15 < d → all_digits (drop i text) ≡ false
-unfolding all_digits
-digits_stop text i d h e large =
-    let bad : leb (digit_of (get_or text i 0)) 15 ≡ false = subst (λ x. leb x 15 ≡ false) e (grind (arith, nat_tests)) in
-    at_drop_more all_digits text i 0 h ∙ ap (λ b. b && all_digits (drop (i + 1) text)) bad
-
-pub digits_end : (text : List ℕ) (i : ℕ) → length text ≤ i → all_digits (drop i text) ≡ true
-unfolding all_digits
-digits_end text i h = at_drop_all all_digits text i h
-
 digit_below : (text : List ℕ) (i : ℕ) → all_digits text ≡ true → i < length text → digit_of (get_or text i 0) < 16
-unfolding all_digits
 digit_below [] i h l = absurd (omega arith)
-digit_below (c ∷ cs) zero h l = let p = (both_true _ _ h).0 in let q : leb (digit_of c) 15 ≡ true = p in below (digit_of c) q where
-  below : (d : ℕ) → leb d 15 ≡ true → d < 16
+digit_below (c ∷ cs) zero h l = let p = (both_true _ _ h).0 in let q : ltb (digit_of c) 16 ≡ true = p in below (digit_of c) q where
+  below : (d : ℕ) → ltb d 16 ≡ true → d < 16
   below d e = grind (arith, nat_tests)
 digit_below (c ∷ cs) (suc i) h l = digit_below cs i (both_true _ _ h).1 (omega arith)
 
 -- both digits of a pair
-pub pair_below : (text : List ℕ) (i : ℕ) → all_digits text ≡ true → i < length text / 2
+pair_below : (text : List ℕ) (i : ℕ) → all_digits text ≡ true → i < length text / 2
     → (digit_of (get_or text (2 * i) 0) < 16) × (digit_of (get_or text (2 * i + 1) 0) < 16)
 pair_below text i h l = (digit_below text (2 * i) h (omega arith), digit_below text (2 * i + 1) h (omega arith))
 
@@ -59,7 +44,7 @@ length_pairs [] = refl
 length_pairs (x ∷ []) = refl
 length_pairs (x ∷ (y ∷ cs)) = let e = length_pairs cs in omega arith
 
-pub pair_at : (text : List ℕ) (i : ℕ) → 2 * i + 1 < length text → get_or (pairs text) i 0 ≡ 16 * digit_of (get_or text (2 * i) 0) + digit_of (get_or text (2 * i + 1) 0)
+pair_at : (text : List ℕ) (i : ℕ) → 2 * i + 1 < length text → get_or (pairs text) i 0 ≡ 16 * digit_of (get_or text (2 * i) 0) + digit_of (get_or text (2 * i + 1) 0)
 unfolding pairs
 pair_at [] i h = absurd (omega arith)
 pair_at (x ∷ []) i h = absurd (omega arith)
@@ -70,6 +55,34 @@ pair_at (x ∷ (y ∷ cs)) (suc i) h =
     pair_at cs i (omega arith)
     ∙ ap (λ n. 16 * digit_of (get_or (x ∷ (y ∷ cs)) n 0) + digit_of (get_or cs (2 * i + 1) 0)) (sym even)
     ∙ ap (λ n. 16 * digit_of (get_or (x ∷ (y ∷ cs)) (2 * suc i) 0) + digit_of (get_or (x ∷ (y ∷ cs)) n 0)) (sym odd)
+
+-- the characters of a pair
+pair_chunk : (k : ℕ) (text : List ℕ) (i : ℕ) → i < k → get_or (first_chunks 2 k text) i [] ≡ take 2 (drop (2 * i) text)
+pair_chunk zero text i h = absurd (omega arith)
+pair_chunk (suc k) text zero h = refl
+pair_chunk (suc k) text (suc i) h =
+    let start : 2 + 2 * i ≡ 2 * suc i = omega arith in
+    pair_chunk k (drop 2 text) i (omega arith) ∙ ap (take 2) (drop-drop (2 * i) 2 text ∙ ap (λ n. drop n text) start)
+
+in_pair : (chunks : List (List ℕ)) (text : List ℕ) (i : ℕ) → chunks ≡ first_chunks 2 (length text / 2) text → i < length text / 2
+    → (get_or (get_or chunks i []) 0 0 ≡ get_or text (2 * i) 0) × (get_or (get_or chunks i []) 1 0 ≡ get_or text (2 * i + 1) 0)
+in_pair chunks text i are h =
+    let here : get_or chunks i [] ≡ take 2 (drop (2 * i) text) = ap (λ l. get_or l i []) are ∙ pair_chunk (length text / 2) text i h in (
+      ap (λ l. get_or l 0 0) here ∙ get_or-take 2 (drop (2 * i) text) 0 0 (omega arith) ∙ get_or-drop (2 * i) text 0 0 ∙ ap (λ n. get_or text n 0) (add-zero (2 * i)),
+      ap (λ l. get_or l 1 0) here ∙ get_or-take 2 (drop (2 * i) text) 1 0 (omega arith) ∙ get_or-drop (2 * i) text 1 0,
+    )
+
+-- the digits that were read of a pair are small, and make its byte
+pub pair_read : (chunks : List (List ℕ)) (text : List ℕ) (i high low : ℕ) → all_digits text ≡ true
+    → chunks ≡ first_chunks 2 (length text / 2) text → i < length text / 2
+    → high ≡ digit_of (get_or (get_or chunks i []) 0 0) → low ≡ digit_of (get_or (get_or chunks i []) 1 0)
+    → (high < 16) × (low < 16) × (16 * high + low ≡ get_or (pairs text) i 0)
+pair_read chunks text i high low digits are h high_is low_is =
+    let at = in_pair chunks text i are h in
+    let below = pair_below text i digits h in
+    let first : high ≡ digit_of (get_or text (2 * i) 0) = high_is ∙ ap digit_of at.0 in
+    let second : low ≡ digit_of (get_or text (2 * i + 1) 0) = low_is ∙ ap digit_of at.1 in
+    (omega arith, omega arith, ap (λ d. 16 * d + low) first ∙ ap (λ d. 16 * digit_of (get_or text (2 * i) 0) + d) second ∙ sym (pair_at text i (omega arith)))
 
 -- one element more is written
 pub one_more : (ps xs ys : List ℕ) (i v : ℕ) → i < length ps → i < length xs → ys ≡ take i ps ++ drop i xs → v ≡ get_or ps i 0 → set ys i v ≡ take (i + 1) ps ++ drop (i + 1) xs
@@ -82,7 +95,7 @@ one_more ps xs ys i v h l so_far is =
     ∙ ap (λ z. z ++ drop (i + 1) xs) (sym (take_more ps i 0 h))
 
 -- the digits of one byte more are written
-pub length_hex : (bs : List ℕ) → length (hex_of bs) ≡ 2 * length bs
+length_hex : (bs : List ℕ) → length (hex_of bs) ≡ 2 * length bs
 length_hex [] = refl
 length_hex (b ∷ bs) = let e = length_hex bs in omega arith
 
@@ -109,45 +122,32 @@ digits_written bs xs ys i v w h fits so_far high low =
     ∙ ap (λ z. z ++ drop (2 * i + 2) xs) more
     ∙ ap (λ n. hex_of (take (i + 1) bs) ++ drop n xs) (omega arith)
 
--- the end of the line is written
-pub end_written : (fs xs ys : List ℕ) (k : ℕ) → length fs ≡ k → k < length xs → ys ≡ fs ++ drop k xs → set ys k 10 ≡ (fs ++ 10 ∷ []) ++ drop (k + 1) xs
-end_written fs xs ys k long h so_far =
-    ap (λ z. set z k 10) (so_far ∙ ap (λ r. fs ++ r) (drop_more xs k 0 h))
-    ∙ set_at fs (get_or xs k 0) (drop (k + 1) xs) 10 k long
-    ∙ sym (append_assoc fs (10 ∷ []) (drop (k + 1) xs))
-
 -- the length of the first line
-pub line_more : (text : List ℕ) (i : ℕ) → i < length text → (get_or text i 0 ≡ 10 → ⊥) → line_length (drop i text) ≡ 1 + line_length (drop (i + 1) text)
-unfolding line_length
-line_more text i h other =
-    at_drop_more line_length text i 0 h
-    ∙ ap (λ b. cond b 0 (suc (line_length (drop (i + 1) text)))) (ne_eqb (get_or text i 0) 10 other)
-    ∙ (omega arith)
-
-pub line_stops : (text : List ℕ) (i : ℕ) → i < length text → get_or text i 0 ≡ 10 → line_length (drop i text) ≡ 0
-unfolding line_length
-line_stops text i h e =
-    at_drop_more line_length text i 0 h ∙ ap (λ c. cond (eqb c 10) 0 (suc (line_length (drop (i + 1) text)))) e
-
-pub line_ends : (text : List ℕ) (i : ℕ) → length text ≤ i → line_length (drop i text) ≡ 0
-unfolding line_length
-line_ends text i h = at_drop_all line_length text i h
+pub first_end : (text : List ℕ) (place : Option ℕ) → place ≡ cond (ltb (line_length text) (length text)) (Some (line_length text)) None
+    → unwrap_or place (length text) ≡ line_length text
+first_end text place is = ap (λ o. unwrap_or o (length text)) is ∙ at (line_length text) (prefix_len-le-length (λ c. not (eqb c 10)) text) where
+  at : (n : ℕ) → n ≤ length text → unwrap_or (cond (ltb n (length text)) (Some n) None) (length text) ≡ n
+  at n within = grind (arith, nat_tests)
 
 -- the lines of a text are the first line and those after it
-pub lines_first : (c : ℕ) (cs : List ℕ) → lines_of (c ∷ cs) ≡ first_line (c ∷ cs) ∷ lines_of (after_line (c ∷ cs))
-unfolding line_length lines_of
+lines_first : (c : ℕ) (cs : List ℕ) → lines_of (c ∷ cs) ≡ first_line (c ∷ cs) ∷ lines_of (after_line (c ∷ cs))
+unfolding lines_of
 lines_first c [] = go (eqb c 10) where
-  go : (b : Bool) → cond b ([] ∷ lines_of []) (begun c (lines_of [])) ≡ take (cond b 0 (suc (line_length []))) (c ∷ []) ∷ lines_of (drop (cond b 0 (suc (line_length [])) + 1) (c ∷ []))
+  go : (b : Bool) → cond b ([] ∷ lines_of []) (begun c (lines_of [])) ≡ take (cond (not b) (1 + line_length []) 0) (c ∷ []) ∷ lines_of (drop (cond (not b) (1 + line_length []) 0 + 1) (c ∷ []))
   go true = refl
   go false = refl
 lines_first c (d ∷ ds) = go (eqb c 10) (lines_first d ds) where
   go : (b : Bool) → lines_of (d ∷ ds) ≡ first_line (d ∷ ds) ∷ lines_of (after_line (d ∷ ds))
       → cond b ([] ∷ lines_of (d ∷ ds)) (begun c (lines_of (d ∷ ds)))
-      ≡ take (cond b 0 (suc (line_length (d ∷ ds)))) (c ∷ (d ∷ ds)) ∷ lines_of (drop (cond b 0 (suc (line_length (d ∷ ds))) + 1) (c ∷ (d ∷ ds)))
+      ≡ take (cond (not b) (1 + line_length (d ∷ ds)) 0) (c ∷ (d ∷ ds)) ∷ lines_of (drop (cond (not b) (1 + line_length (d ∷ ds)) 0 + 1) (c ∷ (d ∷ ds)))
   go true ih = refl
   go false ih =
-      let one : suc (line_length (d ∷ ds)) + 1 ≡ suc (line_length (d ∷ ds) + 1) = omega arith in
-      ap (begun c) ih ∙ ap (λ n. (c ∷ first_line (d ∷ ds)) ∷ lines_of (drop n (c ∷ (d ∷ ds)))) (sym one)
+      let n = line_length (d ∷ ds) in
+      let one : suc n ≡ 1 + n = omega arith in
+      let two : suc (n + 1) ≡ 1 + n + 1 = omega arith in
+      ap (begun c) ih
+      ∙ ap (λ k. take k (c ∷ (d ∷ ds)) ∷ lines_of (drop (suc (n + 1)) (c ∷ (d ∷ ds)))) one
+      ∙ ap (λ k. take (1 + n) (c ∷ (d ∷ ds)) ∷ lines_of (drop k (c ∷ (d ∷ ds)))) two
 
 pub next_is : (text line rest : List ℕ) → 0 < length text → line ≡ first_line text → rest ≡ after_line text
     → (line ≡ first_line text) × (rest ≡ after_line text) × (lines_of text ≡ line ∷ lines_of rest)

@@ -1,7 +1,7 @@
 -- Bytes as text: two hexadecimal digits for each byte, the high one first. A line is read in either case and written
 -- in lower case; a text is lines, each of which ends with the character 10.
-use Rattle.std.specs.Prelude.{ℕ, suc, ◌+◌, ◌-◌, ◌*◌, ◌/◌, ◌%◌, Bool, true, cond, ◌&&◌, List, [], ◌∷◌, ◌++◌, length, take, drop, Ok, Err, Result, ◌==◌, nat_le, nat_lt}
-use Rattle.std.specs.List.{flat_map}
+use Rattle.std.specs.Prelude.{ℕ, ◌+◌, ◌-◌, ◌*◌, ◌/◌, ◌%◌, Bool, cond, ◌&&◌, List, [], ◌∷◌, ◌++◌, length, take, drop, Ok, Err, Result, ◌==◌, nat_le, nat_lt}
+use Rattle.std.specs.List.{flat_map, list_all, position_or_len}
 use Rattle.wire.specs.declared.refusal.Refusal.{Refusal}
 use Rattle.wire.specs.declared.refusal.Refusal.TheVariants.{Malformed}
 
@@ -16,9 +16,8 @@ digit_of c =
 abbrev pub char_of : ℕ → ℕ
 char_of d = cond (nat_lt d 10) (48 + d) (87 + d)
 
-unfoldable pub all_digits : List ℕ → Bool
-all_digits [] = true
-all_digits (c ∷ cs) = nat_le (digit_of c) 15 && all_digits cs
+abbrev pub all_digits : List ℕ → Bool
+all_digits text = list_all (λ c. nat_lt (digit_of c) 16) text
 
 -- the bytes that pairs of digits are
 unfoldable pub pairs : List ℕ → List ℕ
@@ -45,9 +44,8 @@ abbrev pub text_of : List ℕ → List ℕ
 text_of bs = hex_of bs ++ 10 ∷ []
 
 -- the first line of a text, and what follows it
-unfoldable pub line_length : List ℕ → ℕ
-line_length [] = 0
-line_length (c ∷ cs) = cond (c == 10) 0 (suc (line_length cs))
+abbrev pub line_length : List ℕ → ℕ
+line_length text = position_or_len (λ c. c == 10) text
 
 abbrev pub first_line : List ℕ → List ℕ
 first_line text = take (line_length text) text

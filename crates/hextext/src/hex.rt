@@ -27,12 +27,7 @@ fn char_of(digit: u8) -> u8
 fn all_digits(text: &[u8]) -> bool
     ensures value { result ≡ all_digits text.now }
 {
-    for c in text {
-        if digit(*c) > 15 {
-            return false;
-        }
-    }
-    true
+    text.iter().all(|c| digit(*c) < 16)
 }
 
 // Whether the text is at least one pair of digits, and not too many for so much room.
@@ -48,13 +43,16 @@ fn read_pairs(text: &[u8], out: &mut [u8])
     requires fits { length text.now / 2 ≤ length out.old }
     ensures after { out.new ≡ pairs text.now ++ drop (length text.now / 2) out.old }
 {
-    for i in 0..text.len() / 2 {
-        out[i] = 16 * digit(text[2 * i]) + digit(text[2 * i + 1]);
+    // The place is counted: of what `zip` with `iter_mut` writes nothing can be proved.
+    for (i, pair) in text.as_chunks::<2>().0.iter().enumerate() {
+        let [high, low] = *pair;
+        out[i] = 16 * digit(high) + digit(low);
     }
 }
 
 /// Reads a line of text, without its end, to the front of `out`, and says how many bytes it is. A line that is not
 /// hexadecimal, that is empty, or that is too long for `out` is malformed, and `out` then stays as it was.
+#[tactic(auto, using(crate::proofs::Cases::text_laws))]
 pub fn read_line(text: &[u8], out: &mut [u8]) -> Result<usize, Refusal>
     ensures cases { MatchResult result (λ n. (line_of (length out.old) text.now ≡ Ok (pairs text.now)) × (n ≡ length text.now / 2) × (out.new ≡ pairs text.now ++ drop n out.old)) (λ e. (line_of (length out.old) text.now ≡ Err e) × (out.new ≡ out.old)) }
     ensures laws { TextLaws }
@@ -71,9 +69,10 @@ fn write_digits(bytes: &[u8], out: &mut [u8])
     requires fits { 2 * length bytes.now ≤ length out.old }
     ensures after { out.new ≡ hex_of bytes.now ++ drop (2 * length bytes.now) out.old }
 {
-    for i in 0..bytes.len() {
-        out[2 * i] = char_of(bytes[i] / 16);
-        out[2 * i + 1] = char_of(bytes[i] % 16);
+    // As above, the place is counted.
+    for (i, byte) in bytes.iter().enumerate() {
+        out[2 * i] = char_of(*byte / 16);
+        out[2 * i + 1] = char_of(*byte % 16);
     }
 }
 
@@ -96,12 +95,7 @@ fn line_length(text: &[u8]) -> usize
     ensures value { result ≡ line_length text.now }
     ensures within { result ≤ length text.now }
 {
-    for (i, c) in text.iter().enumerate() {
-        if *c == b'\n' {
-            return i;
-        }
-    }
-    text.len()
+    text.iter().position(|c| *c == b'\n').unwrap_or(text.len())
 }
 
 /// The first line of a text, without its end, and the text after it; none where the text is empty.

@@ -12,8 +12,6 @@ use wire::refusal::Refusal;
 pub fn read_input_line<'a>(text: &[u8], room: &'a mut [u8]) -> Result<Input<'a>, Refusal>
     ensures value { seen result ≡ message_at (length room.old) text.now }
 {
-    match read_line(text, room) {
-        Ok(n) => read_input(&room[0..n]),
-        Err(refusal) => Err(refusal),
-    }
+    let length = read_line(text, room)?;
+    read_input(&room[0..length])
 }

@@ -1,17 +1,21 @@
 -- What is read is written again as the bytes that it was read from: no two strings of bytes are one line.
-use Rattle.std.proofs.Common.{◌≡◌, ℕ, zero, suc, ◌+◌, ◌*◌, ◌/◌, Bool, true, false, cond, eqb, ◌⊎◌, List, [], ◌∷◌, ◌++◌, length, get_or, take, drop, Some, None, Ok, Option, sym, refl, ap, ◌∙◌, inl, inr, ⊎_elim, arith}
+use Rattle.std.proofs.Common.{◌≡◌, ℕ, zero, suc, ◌+◌, ◌*◌, ◌/◌, eqb, List, [], ◌∷◌, ◌++◌, length, get_or, take, drop, Some, None, Ok, Option, sym, refl, ap, ◌∙◌, ⊎_elim, arith}
 use Rattle.std.specs.List.{flat_map}
 use Rattle.std.proofs.lemmas.List.{append-nil, drop_all, drop-drop, length-drop, length-take-le, take-append-drop, nil_from_length}
 use Rattle.std.proofs.lemmas.Bool.{eqb-true}
+use Rattle.std.proofs.lemmas.Bool.Decides.{nat_tests}
 use Rattle.wire.specs.Laws.{Bytes}
-use Rattle.lines.specs.Laws.{EntriesWrittenBack, EntryLaws}
-use Rattle.lines.specs.Lines.{Entry, hand_of, refused_by, refused_of, request_of, heard_of, reckoned_of, marked_of, said_of, asked_of, run_bytes, runs_from, runs_of}
+use Rattle.lines.specs.Kinds.{kind_of}
+use Rattle.lines.specs.Kinds as Kinds
+use Rattle.lines.specs.Laws.{EntriesWrittenBack, EntryLaws, KindsByNumber}
+use Rattle.lines.specs.declared.line.Kind.{Kind}
+use Rattle.lines.specs.Lines.{Entry, body_by, hand_of, refused_by, refused_of, request_of, heard_of, reckoned_of, marked_of, said_of, asked_of, run_bytes, runs_from, runs_of}
 use Rattle.lines.specs.Lines as Lines
 use Rattle.wire.specs.Numbers.{be2, be8, number2, number8}
-use Rattle.wire.specs.Refusals.{number_of, refusal_of}
+use Rattle.wire.specs.Refusals.{refusal_of}
 use Rattle.wire.specs.declared.refusal.Refusal.{Refusal}
-use Rattle.wire.specs.declared.refusal.Refusal.TheVariants.{Malformed, OutOfRange, UnknownNonce, WrongSignature, TooLate, UnknownEvent, NoWorldLeft, ClockWentBack, OldestMomentGone, Full}
-use Rattle.wire.proofs.Again.{two_again, eight_at, byte_at, eight_last, byte_last, bytes_drop, bytes_take, pick, no_value, value_of, sized, of_kind}
+use Rattle.wire.specs.declared.refusal.Refusal.TheVariants.{Malformed}
+use Rattle.wire.proofs.Again.{two_again, eight_at, byte_at, eight_last, byte_last, bytes_drop, bytes_take, pick, no_value, value_of, sized, message_laws}
 use Rattle.lines.proofs.Back.{entries_back, entries_differ}
 
 -- lines of the record
@@ -80,43 +84,12 @@ asked_again bs m b h =
     sized bs 9 _ _ Malformed m _ refl h
     (λ l e. ap Lines.bytes_of (sym (value_of e)) ∙ ap (λ r. 7 ∷ (be8 (number8 bs) ++ r)) (byte_last 8 bs l) ∙ ap (λ r. 7 ∷ r) (eight_at 0 8 bs b (omega arith) refl))
 
--- a number is that of one refusal
-pick_some : (t : Bool) (x e : Refusal) (y : Option Refusal) → cond t (Some x) y ≡ Some e → ((t ≡ true) × (x ≡ e)) ⊎ (y ≡ Some e)
-pick_some true x e y h = inl (refl, cc)
-pick_some false x e y h = inr h
-
-found : (n k : ℕ) (x e : Refusal) → number_of x ≡ k → ((eqb n k ≡ true) × (x ≡ e)) → number_of e ≡ n
-found n k x e is p = ap number_of (sym p.1) ∙ is ∙ sym (eqb-true n k p.0)
-
-refusal_again : (n : ℕ) (e : Refusal) → refusal_of n ≡ Some e → number_of e ≡ n
-refusal_again n e h =
-    ⊎_elim (found n 1 Malformed e refl)
-    (λ r. ⊎_elim (found n 2 OutOfRange e refl)
-    (λ r. ⊎_elim (found n 3 UnknownNonce e refl)
-    (λ r. ⊎_elim (found n 4 WrongSignature e refl)
-    (λ r. ⊎_elim (found n 5 TooLate e refl)
-    (λ r. ⊎_elim (found n 6 UnknownEvent e refl)
-    (λ r. ⊎_elim (found n 7 NoWorldLeft e refl)
-    (λ r. ⊎_elim (found n 8 ClockWentBack e refl)
-    (λ r. ⊎_elim (found n 9 OldestMomentGone e refl)
-    (λ r. ⊎_elim (found n 10 Full e refl) (λ r. let z : ◌≡◌ {A = ℕ} 0 1 = cc in absurd (omega arith))
-    (pick_some (eqb n 10) _ e _ r))
-    (pick_some (eqb n 9) _ e _ r))
-    (pick_some (eqb n 8) _ e _ r))
-    (pick_some (eqb n 7) _ e _ r))
-    (pick_some (eqb n 6) _ e _ r))
-    (pick_some (eqb n 5) _ e _ r))
-    (pick_some (eqb n 4) _ e _ r))
-    (pick_some (eqb n 3) _ e _ r))
-    (pick_some (eqb n 2) _ e _ r))
-    (pick_some (eqb n 1) _ e _ h)
-
 refused_again : (bs : List ℕ) (m : Entry) → Bytes bs → refused_of bs ≡ Ok m → Lines.bytes_of m ≡ 21 ∷ bs
 refused_again bs m b h = sized bs 1 _ _ Malformed m _ refl h (λ l e. go (refusal_of (get_or bs 0 0)) refl l e) where
   go : (o : Option Refusal) → refusal_of (get_or bs 0 0) ≡ o → length bs ≡ 1 → refused_by o ≡ Ok m → Lines.bytes_of m ≡ 21 ∷ bs
   go None is l e = no_value e
   go (Some x) is l e =
-      ap Lines.bytes_of (sym (value_of e)) ∙ ap (λ n. 21 ∷ n ∷ []) (refusal_again (get_or bs 0 0) x is) ∙ ap (λ r. 21 ∷ r) (byte_last 0 bs l)
+      ap Lines.bytes_of (sym (value_of e)) ∙ ap (λ n. 21 ∷ n ∷ []) (sym ((message_laws.refusals x (get_or bs 0 0)).0 is)) ∙ ap (λ r. 21 ∷ r) (byte_last 0 bs l)
 
 hand_again : (bs : List ℕ) (m : Entry) → Bytes bs → hand_of bs ≡ Ok m → Lines.bytes_of m ≡ 22 ∷ bs
 hand_again bs m b h =
@@ -130,26 +103,34 @@ hand_again bs m b h =
           ∙ ap (λ r. 22 ∷ (be8 (number8 bs) ++ r)) (byte_last 8 bs l)
           ∙ ap (λ r. 22 ∷ r) (eight_at 0 8 bs b (omega arith) refl)
 
+kind_from : (n : ℕ) (k : Kind) → kind_of n ≡ Some k → n ≡ Kinds.number_of k
+kind_from n k is = grind (arith, nat_tests)
+
+kinds : KindsByNumber
+kinds Kind.Request n = (kind_from n Kind.Request, λ is. ap kind_of is)
+kinds Kind.Heard n = (kind_from n Kind.Heard, λ is. ap kind_of is)
+kinds Kind.Reckoned n = (kind_from n Kind.Reckoned, λ is. ap kind_of is)
+kinds Kind.Marked n = (kind_from n Kind.Marked, λ is. ap kind_of is)
+kinds Kind.Said n = (kind_from n Kind.Said, λ is. ap kind_of is)
+kinds Kind.Asked n = (kind_from n Kind.Asked, λ is. ap kind_of is)
+kinds Kind.Refused n = (kind_from n Kind.Refused, λ is. ap kind_of is)
+kinds Kind.Hand n = (kind_from n Kind.Hand, λ is. ap kind_of is)
+
+entries_by : (k : Option Kind) (bs : List ℕ) (n : ℕ) (m : Entry) → Bytes bs → kind_of n ≡ k → body_by k bs ≡ Ok m → Lines.bytes_of m ≡ n ∷ bs
+entries_by None bs n m b is h = no_value h
+entries_by (Some Kind.Request) bs n m b is h = request_again bs m b h ∙ ap (λ x. x ∷ bs) (sym (kind_from n Kind.Request is))
+entries_by (Some Kind.Heard) bs n m b is h = heard_again bs m b h ∙ ap (λ x. x ∷ bs) (sym (kind_from n Kind.Heard is))
+entries_by (Some Kind.Reckoned) bs n m b is h = reckoned_again bs m b h ∙ ap (λ x. x ∷ bs) (sym (kind_from n Kind.Reckoned is))
+entries_by (Some Kind.Marked) bs n m b is h = marked_again bs m b h ∙ ap (λ x. x ∷ bs) (sym (kind_from n Kind.Marked is))
+entries_by (Some Kind.Said) bs n m b is h = said_again bs m b h ∙ ap (λ x. x ∷ bs) (sym (kind_from n Kind.Said is))
+entries_by (Some Kind.Asked) bs n m b is h = asked_again bs m b h ∙ ap (λ x. x ∷ bs) (sym (kind_from n Kind.Asked is))
+entries_by (Some Kind.Refused) bs n m b is h = refused_again bs m b h ∙ ap (λ x. x ∷ bs) (sym (kind_from n Kind.Refused is))
+entries_by (Some Kind.Hand) bs n m b is h = hand_again bs m b h ∙ ap (λ x. x ∷ bs) (sym (kind_from n Kind.Hand is))
+
 entries_again : EntriesWrittenBack
 unfolding Bytes
 entries_again [] m b h = no_value h
-entries_again (k ∷ bs) m (p, b) h =
-    ⊎_elim (λ q. of_kind _ bs k 1 q.0 (request_again bs m b q.1))
-    (λ r. ⊎_elim (λ q. of_kind _ bs k 3 q.0 (heard_again bs m b q.1))
-    (λ r. ⊎_elim (λ q. of_kind _ bs k 4 q.0 (reckoned_again bs m b q.1))
-    (λ r. ⊎_elim (λ q. of_kind _ bs k 5 q.0 (marked_again bs m b q.1))
-    (λ r. ⊎_elim (λ q. of_kind _ bs k 6 q.0 (said_again bs m b q.1))
-    (λ r. ⊎_elim (λ q. of_kind _ bs k 7 q.0 (asked_again bs m b q.1))
-    (λ r. ⊎_elim (λ q. of_kind _ bs k 21 q.0 (refused_again bs m b q.1))
-    (λ r. ⊎_elim (λ q. of_kind _ bs k 22 q.0 (hand_again bs m b q.1)) (λ r. no_value r.1)
-    (pick (eqb k 22) _ _ m r.1))
-    (pick (eqb k 21) _ _ m r.1))
-    (pick (eqb k 7) _ _ m r.1))
-    (pick (eqb k 6) _ _ m r.1))
-    (pick (eqb k 5) _ _ m r.1))
-    (pick (eqb k 4) _ _ m r.1))
-    (pick (eqb k 3) _ _ m r.1))
-    (pick (eqb k 1) _ _ m h)
+entries_again (n ∷ bs) m (p, b) h = entries_by (kind_of n) bs n m b refl h
 
 pub entry_laws : EntryLaws
-entry_laws = record { back = entries_back; again = entries_again; differ = entries_differ }
+entry_laws = record { kinds = kinds; back = entries_back; again = entries_again; differ = entries_differ }

@@ -8,7 +8,7 @@ use Rattle.lines.specs.Lines as Lines
 use Rattle.wire.specs.Refusals.{number_of, refusal_of}
 use Rattle.lines.specs.declared.line.Request.{Request}
 use Rattle.lines.specs.declared.line.Heard.{Heard}
-use Rattle.lines.specs.declared.line.Run.{Run}
+use Rattle.choice.specs.declared.runs.Run.{Run}
 use Rattle.lines.specs.declared.line.Said.{Said}
 use Rattle.wire.specs.declared.refusal.Refusal.{Refusal}
 use Rattle.wire.specs.declared.refusal.Refusal.TheVariants.{Malformed, OutOfRange, UnknownNonce, WrongSignature, TooLate, UnknownEvent, NoWorldLeft, ClockWentBack, OldestMomentGone, Full}
@@ -21,8 +21,8 @@ runs_back : (rs : List Run) → RunsFit rs → runs_from (length rs) (flat_map r
 unfolding runs_from RunsFit
 runs_back [] h = refl
 runs_back (r ∷ rs) (f, t, h) =
-    ap (λ n. record { from = n; to = number8 (be8 r.to ++ flat_map run_bytes rs) } ∷ runs_from (length rs) (flat_map run_bytes rs)) (back8 r.from (be8 r.to ++ flat_map run_bytes rs) f)
-    ∙ ap (λ n. record { from = r.from; to = n } ∷ runs_from (length rs) (flat_map run_bytes rs)) (back8 r.to (flat_map run_bytes rs) t)
+    ap (λ n. record { lo = n; hi = number8 (be8 r.hi ++ flat_map run_bytes rs) } ∷ runs_from (length rs) (flat_map run_bytes rs)) (back8 r.lo (be8 r.hi ++ flat_map run_bytes rs) f)
+    ∙ ap (λ n. record { lo = r.lo; hi = n } ∷ runs_from (length rs) (flat_map run_bytes rs)) (back8 r.hi (flat_map run_bytes rs) t)
     ∙ ap (λ l. r ∷ l) (runs_back rs h)
 
 pub runs_of_back : (rs : List Run) → RunsFit rs → runs_of (flat_map run_bytes rs) ≡ rs

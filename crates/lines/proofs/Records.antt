@@ -8,7 +8,7 @@ use Rattle.lines.specs.Laws.{entry_at, EntryFits, EntriesFit, record_text, Recor
 use Rattle.lines.specs.Lines.{Entry, request, heard, reckoned, marked, said, asked, refused, hand, bit, bytes_of, entry_from, run_bytes}
 use Rattle.wire.specs.Numbers.{be2, be8}
 use Rattle.wire.specs.Refusals.{number_of}
-use Rattle.lines.specs.declared.line.Run.{Run}
+use Rattle.choice.specs.declared.runs.Run.{Run}
 use Rattle.wire.specs.declared.refusal.Refusal.{Refusal}
 use Rattle.wire.specs.declared.refusal.Refusal.TheVariants.{Malformed, OutOfRange, UnknownNonce, WrongSignature, TooLate, UnknownEvent, NoWorldLeft, ClockWentBack, OldestMomentGone, Full}
 use Rattle.hextext.proofs.Cases.{line_cut, text_back}
@@ -32,7 +32,7 @@ be2_bytes n = (omega arith, (omega arith, tt))
 runs_bytes : (rs : List Run) → Bytes (flat_map run_bytes rs)
 unfolding Bytes
 runs_bytes [] = tt
-runs_bytes (r ∷ rs) = bytes_append (run_bytes r) (flat_map run_bytes rs) (bytes_append (be8 r.from) (be8 r.to) (be8_bytes r.from) (be8_bytes r.to)) (runs_bytes rs)
+runs_bytes (r ∷ rs) = bytes_append (run_bytes r) (flat_map run_bytes rs) (bytes_append (be8 r.lo) (be8 r.hi) (be8_bytes r.lo) (be8_bytes r.hi)) (runs_bytes rs)
 
 refusal_byte : (e : Refusal) → number_of e < 256
 refusal_byte Malformed = omega arith

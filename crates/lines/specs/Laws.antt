@@ -1,17 +1,19 @@
 -- What holds of all lines of the record: what is written is read back as itself, what is read is written as it was, and
 -- two that differ have different bytes; and a record is read back line by line.
 -- A struct of the code is a bare record here, so that its numbers fit their width is said.
-use Rattle.std.specs.Prelude.{◌≡◌, ℕ, ◌^◌, ◌<◌, ◌≤◌, List, [], ◌∷◌, map, length, Ok, Result}
+use Rattle.std.specs.Prelude.{◌≡◌, ◌↔◌, ℕ, ◌^◌, ◌<◌, ◌≤◌, List, [], ◌∷◌, map, length, Some, Ok, Result}
 use Rattle.std.specs.List.{flat_map}
 use Rattle.hextext.specs.Hex.{line_of, lines_of, text_of}
 use Rattle.wire.specs.Laws.{and_then, Bytes}
 use Rattle.wire.specs.declared.refusal.Refusal.{Refusal}
 use Rattle.lines.specs.Lines.{Entry, request, heard, reckoned, marked, said, asked, refused, hand, bytes_of, entry_from}
-use Rattle.lines.specs.declared.line.Run.{Run}
+use Rattle.lines.specs.Kinds.{kind_of, number_of}
+use Rattle.lines.specs.declared.line.Kind.{Kind}
+use Rattle.choice.specs.declared.runs.Run.{Run}
 
 unfoldable pub RunsFit : List Run → Type 0
 RunsFit [] = Unit {0}
-RunsFit (r ∷ rs) = (r.from < 2 ^ 64) × (r.to < 2 ^ 64) × RunsFit rs
+RunsFit (r ∷ rs) = (r.lo < 2 ^ 64) × (r.hi < 2 ^ 64) × RunsFit rs
 
 -- a line whose parts fit the places that they have in its bytes
 abbrev pub EntryFits : Entry → Type 0
@@ -42,8 +44,13 @@ EntriesWrittenBack = (bs : List ℕ) (e : Entry) → Bytes bs → entry_from bs 
 abbrev pub EntriesDiffer : Type 0
 EntriesDiffer = (d e : Entry) → EntryFits d → EntryFits e → bytes_of d ≡ bytes_of e → d ≡ e
 
--- the three together
+-- a kind's number is of that kind and of no other
+abbrev pub KindsByNumber : Type 0
+KindsByNumber = (k : Kind) (n : ℕ) → kind_of n ≡ Some k ↔ n ≡ number_of k
+
+-- these together
 pub record EntryLaws : Type 0 where
+  pub kinds : KindsByNumber
   pub back : EntriesReadBack
   pub again : EntriesWrittenBack
   pub differ : EntriesDiffer

@@ -9,11 +9,13 @@ use Rattle.wire.specs.declared.refusal.Refusal.{Refusal}
 use Rattle.wire.specs.declared.refusal.Refusal.TheVariants.{Malformed}
 use Rattle.lines.specs.declared.line.Request.{Request}
 use Rattle.lines.specs.declared.line.Heard.{Heard}
-use Rattle.lines.specs.declared.line.Run.{Run}
+use Rattle.choice.specs.declared.runs.Run.{Run}
 use Rattle.lines.specs.declared.line.Said.{Said}
 use Rattle.lines.specs.declared.line.Asked.{Asked}
 use Rattle.lines.specs.declared.line.Hand.{Hand}
 use Rattle.lines.specs.declared.line.Line.{Line}
+use Rattle.lines.specs.declared.line.Kind.{Kind}
+use Rattle.lines.specs.Kinds.{kind_of}
 
 -- what was reckoned: the runs in which the time can be, and the named servers, bit h for server h
 pub record Reckoning : Type 0 where
@@ -35,13 +37,13 @@ pub data Entry : Type 0 where
 -- the runs that bytes are, 16 bytes each
 unfoldable pub runs_from : ℕ → List ℕ → List Run
 runs_from zero bs = []
-runs_from (suc n) bs = record { from = number8 bs; to = number8 (drop 8 bs) } ∷ runs_from n (drop 16 bs)
+runs_from (suc n) bs = record { lo = number8 bs; hi = number8 (drop 8 bs) } ∷ runs_from n (drop 16 bs)
 
 abbrev pub runs_of : List ℕ → List Run
 runs_of bs = runs_from (length bs / 16) bs
 
 abbrev pub run_bytes : Run → List ℕ
-run_bytes r = be8 r.from ++ be8 r.to
+run_bytes r = be8 r.lo ++ be8 r.hi
 
 -- the line that the code's value stands for
 abbrev pub entry_of : Line → Entry
@@ -131,18 +133,22 @@ abbrev pub hand_of : List ℕ → Result Entry Refusal
 hand_of bs = cond (length bs == 9) (hand_by (number8 bs) (slice_index bs 8)) (Err Malformed)
 
 -- what follows a kind
-abbrev pub body_of : ℕ → List ℕ → Result Entry Refusal
-body_of kind bs =
-    cond (kind == 1) (request_of bs)
-    (cond (kind == 3) (heard_of bs)
-    (cond (kind == 4) (reckoned_of bs)
-    (cond (kind == 5) (marked_of bs)
-    (cond (kind == 6) (said_of bs)
-    (cond (kind == 7) (asked_of bs)
-    (cond (kind == 21) (refused_of bs)
-    (cond (kind == 22) (hand_of bs) (Err Malformed))))))))
+abbrev pub body_of : Kind → List ℕ → Result Entry Refusal
+body_of Kind.Request bs = request_of bs
+body_of Kind.Heard bs = heard_of bs
+body_of Kind.Reckoned bs = reckoned_of bs
+body_of Kind.Marked bs = marked_of bs
+body_of Kind.Said bs = said_of bs
+body_of Kind.Asked bs = asked_of bs
+body_of Kind.Refused bs = refused_of bs
+body_of Kind.Hand bs = hand_of bs
+
+-- the same, where the kind may be unknown
+abbrev pub body_by : Option Kind → List ℕ → Result Entry Refusal
+body_by (Some kind) bs = body_of kind bs
+body_by None bs = Err Malformed
 
 -- every list of bytes is one line or has one fault
 abbrev pub entry_from : List ℕ → Result Entry Refusal
 entry_from [] = Err Malformed
-entry_from (kind ∷ bs) = body_of kind bs
+entry_from (number ∷ bs) = body_by (kind_of number) bs

@@ -1,10 +1,16 @@
 //! The lines of the box's record.
+//!
+//! A body is taken apart by `let .. else`, part after part: a body that lacks a part is malformed.
 ghost use Rattle.std.specs.Prelude.{◌≡◌, [], ◌∷◌, MatchOption};
-ghost use Rattle.lines.specs.Lines.{request_of, heard_of, reckoned_of, marked_of, said_of, asked_of, refused_of, hand_of, runs_of, entry_from, shown};
+ghost use Rattle.std.specs.Option.{ok_or};
+ghost use Rattle.lines.specs.Kinds.{kind_of};
+ghost use Rattle.lines.specs.Lines.{request_of, heard_of, reckoned_of, said_of, asked_of, refused_of, hand_of, runs_of, entry_from, shown};
+ghost use Rattle.wire.specs.declared.refusal.Refusal.TheVariants.{Malformed};
 ghost use Rattle.lines.specs.Laws.{EntryLaws};
 
-use wire::number::split_u64;
-use wire::refusal::{Refusal, refusal_of};
+use choice::runs::Run;
+use wire::number::{read_number, split_number};
+use wire::refusal::Refusal;
 
 /// The message that asks a server for its time.
 #[derive(Clone, Copy)]
@@ -22,13 +28,6 @@ pub struct Heard {
     pub server: u8,
     pub least: u64,
     pub greatest: u64,
-}
-
-/// The times from one to another.
-#[derive(Clone, Copy)]
-pub struct Run {
-    pub from: u64,
-    pub to: u64,
 }
 
 /// At a count the box reckoned in which runs the time can be, and which servers are named as faulty: bit h of `named`
@@ -76,21 +75,39 @@ pub enum Line<'a> {
     Hand(Hand),
 }
 
-pub const REQUEST: u8 = 1;
+/// The kind of a line, which is its first byte.
+#[derive(Clone, Copy, Debug, PartialEq, Eq)]
+pub enum Kind {
+    Request = 1,
+    Heard = 3,
+    Reckoned = 4,
+    Marked = 5,
+    Said = 6,
+    Asked = 7,
+    Refused = 21,
+    Hand = 22,
+}
 
-pub const HEARD: u8 = 3;
+impl TryFrom<u8> for Kind {
+    /// A number that no kind has is malformed.
+    type Error = Refusal;
 
-pub const RECKONED: u8 = 4;
+    ghost try_from_gives = { λ number r. r ≡ ok_or (kind_of number) Malformed };
 
-pub const MARKED: u8 = 5;
-
-pub const SAID: u8 = 6;
-
-pub const ASKED: u8 = 7;
-
-pub const REFUSED: u8 = 21;
-
-pub const HAND: u8 = 22;
+    fn try_from(number: u8) -> Result<Kind, Refusal> {
+        match number {
+            1 => Ok(Kind::Request),
+            3 => Ok(Kind::Heard),
+            4 => Ok(Kind::Reckoned),
+            5 => Ok(Kind::Marked),
+            6 => Ok(Kind::Said),
+            7 => Ok(Kind::Asked),
+            21 => Ok(Kind::Refused),
+            22 => Ok(Kind::Hand),
+            _ => Err(Refusal::Malformed),
+        }
+    }
+}
 
 fn read_request(body: &[u8]) -> Result<Line<'_>, Refusal>
     ensures value { shown result ≡ request_of body.now }
@@ -110,19 +127,19 @@ fn read_request(body: &[u8]) -> Result<Line<'_>, Refusal>
 fn read_heard(body: &[u8]) -> Result<Line<'_>, Refusal>
     ensures value { shown result ≡ heard_of body.now }
 {
-    let Some((count, rest)) = split_u64(body) else {
+    let Some((count, rest)) = split_number(body) else {
         return Err(Refusal::Malformed);
     };
-    let Some((asked, rest)) = split_u64(rest) else {
+    let Some((asked, rest)) = split_number(rest) else {
         return Err(Refusal::Malformed);
     };
     let [server, rest @ ..] = rest else {
         return Err(Refusal::Malformed);
     };
-    let Some((least, rest)) = split_u64(rest) else {
+    let Some((least, rest)) = split_number(rest) else {
         return Err(Refusal::Malformed);
     };
-    let Some((greatest, [])) = split_u64(rest) else {
+    let Some((greatest, [])) = split_number(rest) else {
         return Err(Refusal::Malformed);
     };
     Ok(Line::Heard(Heard {
@@ -137,7 +154,7 @@ fn read_heard(body: &[u8]) -> Result<Line<'_>, Refusal>
 fn read_reckoned(body: &[u8]) -> Result<Line<'_>, Refusal>
     ensures value { shown result ≡ reckoned_of body.now }
 {
-    let Some((count, rest)) = split_u64(body) else {
+    let Some((count, rest)) = split_number(body) else {
         return Err(Refusal::Malformed);
     };
     let [many, rest @ ..] = rest else {
@@ -156,25 +173,16 @@ fn read_reckoned(body: &[u8]) -> Result<Line<'_>, Refusal>
     }))
 }
 
-fn read_marked(body: &[u8]) -> Result<Line<'_>, Refusal>
-    ensures value { shown result ≡ marked_of body.now }
-{
-    let Some((count, [])) = split_u64(body) else {
-        return Err(Refusal::Malformed);
-    };
-    Ok(Line::Marked(count))
-}
-
 fn read_said(body: &[u8]) -> Result<Line<'_>, Refusal>
     ensures value { shown result ≡ said_of body.now }
 {
-    let Some((count, rest)) = split_u64(body) else {
+    let Some((count, rest)) = split_number(body) else {
         return Err(Refusal::Malformed);
     };
-    let Some((least, rest)) = split_u64(rest) else {
+    let Some((least, rest)) = split_number(rest) else {
         return Err(Refusal::Malformed);
     };
-    let Some((greatest, [])) = split_u64(rest) else {
+    let Some((greatest, [])) = split_number(rest) else {
         return Err(Refusal::Malformed);
     };
     Ok(Line::Said(Said {
@@ -187,7 +195,7 @@ fn read_said(body: &[u8]) -> Result<Line<'_>, Refusal>
 fn read_asked(body: &[u8]) -> Result<Line<'_>, Refusal>
     ensures value { shown result ≡ asked_of body.now }
 {
-    let Some((count, [server])) = split_u64(body) else {
+    let Some((count, [server])) = split_number(body) else {
         return Err(Refusal::Malformed);
     };
     Ok(Line::Asked(Asked {
@@ -202,16 +210,13 @@ fn read_refused(body: &[u8]) -> Result<Line<'_>, Refusal>
     let [number] = body else {
         return Err(Refusal::Malformed);
     };
-    match refusal_of(*number) {
-        Some(refusal) => Ok(Line::Refused(refusal)),
-        None => Err(Refusal::Malformed),
-    }
+    Ok(Line::Refused(Refusal::try_from(*number)?))
 }
 
 fn read_hand(body: &[u8]) -> Result<Line<'_>, Refusal>
     ensures value { shown result ≡ hand_of body.now }
 {
-    let Some((time, [sound])) = split_u64(body) else {
+    let Some((time, [sound])) = split_number(body) else {
         return Err(Refusal::Malformed);
     };
     match *sound {
@@ -222,23 +227,23 @@ fn read_hand(body: &[u8]) -> Result<Line<'_>, Refusal>
 }
 
 /// The line of the record that these bytes are.
+#[tactic(auto, using(crate::proofs::Again::entry_laws))]
 pub fn read_entry(bytes: &[u8]) -> Result<Line<'_>, Refusal>
     ensures value { shown result ≡ entry_from bytes.now }
     ensures laws { EntryLaws }
 {
-    let [kind, rest @ ..] = bytes else {
+    let [kind, body @ ..] = bytes else {
         return Err(Refusal::Malformed);
     };
-    match *kind {
-        REQUEST => read_request(rest),
-        HEARD => read_heard(rest),
-        RECKONED => read_reckoned(rest),
-        MARKED => read_marked(rest),
-        SAID => read_said(rest),
-        ASKED => read_asked(rest),
-        REFUSED => read_refused(rest),
-        HAND => read_hand(rest),
-        _ => Err(Refusal::Malformed),
+    match Kind::try_from(*kind)? {
+        Kind::Request => read_request(body),
+        Kind::Heard => read_heard(body),
+        Kind::Reckoned => read_reckoned(body),
+        Kind::Marked => Ok(Line::Marked(read_number(body)?)),
+        Kind::Said => read_said(body),
+        Kind::Asked => read_asked(body),
+        Kind::Refused => read_refused(body),
+        Kind::Hand => read_hand(body),
     }
 }
 
@@ -246,11 +251,7 @@ pub fn read_entry(bytes: &[u8]) -> Result<Line<'_>, Refusal>
 pub fn next_run(runs: &[u8]) -> Option<(Run, &[u8])>
     ensures cases { MatchOption result (runs_of runs.now ≡ []) (λ p. runs_of runs.now ≡ p.0 ∷ runs_of p.1.now) }
 {
-    let Some((from, rest)) = split_u64(runs) else {
-        return None;
-    };
-    let Some((to, rest)) = split_u64(rest) else {
-        return None;
-    };
-    Some((Run { from, to }, rest))
+    let (lo, rest) = split_number(runs)?;
+    let (hi, rest) = split_number(rest)?;
+    Some((Run { lo, hi }, rest))
 }

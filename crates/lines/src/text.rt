@@ -9,12 +9,11 @@ use wire::refusal::Refusal;
 
 /// The line of the record that a line of text is, without the line's end. Its bytes are read to the front of `room`: 4,092
 /// bytes of it are enough for every line, and one that is longer than the room is malformed.
+#[tactic(auto, using(crate::proofs::Records::record_back))]
 pub fn read_entry_line<'a>(text: &[u8], room: &'a mut [u8]) -> Result<Line<'a>, Refusal>
     ensures value { shown result ≡ entry_at (length room.old) text.now }
     ensures record_back { RecordReadBack }
 {
-    match read_line(text, room) {
-        Ok(n) => read_entry(&room[0..n]),
-        Err(refusal) => Err(refusal),
-    }
+    let length = read_line(text, room)?;
+    read_entry(&room[0..length])
 }

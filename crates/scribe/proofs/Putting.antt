@@ -1,78 +1,59 @@
--- What is left in memory after bytes were written at places, one part after another.
-use Rattle.std.proofs.Common.{◌≡◌, ℕ, ◌+◌, ◌*◌, ◌<◌, ◌≤◌, List, [], ◌∷◌, ◌++◌, length, get_or, take, drop, sym, ap, ◌∙◌, zero-add, arith}
+-- What memory holds where parts are written to it one after another.
+use Rattle.std.proofs.Common.{◌≡◌, ℕ, ◌+◌, ◌*◌, ◌<◌, ◌≤◌, List, [], ◌∷◌, ◌++◌, length, get_or, take, drop, set, sym, refl, ap, ◌∙◌, arith}
 use borrow.Rule.Slice.PartMut.{put_mid}
 use Rattle.std.specs.List.{flat_map}
-use Rattle.std.proofs.lemmas.List.{append_assoc, drop_at, drop-drop, flat_map_more, length-append, length-drop, length-take-le, take_all, take-append-drop, take_at, take_more}
+use Rattle.std.proofs.lemmas.List.{append_assoc, append-nil, drop_all, drop_at, drop-drop, drop_more, flat_map_more, length-append, length-take-le, set_at, take_all, take_at, take_more}
 use Rattle.lines.specs.Lines.{run_bytes}
 use Rattle.wire.specs.Numbers.{be2, be8}
 use Rattle.lines.proofs.Runs.{length_runs}
-use Rattle.scribe.specs.Puts.{put_at}
-use Rattle.lines.specs.declared.line.Run.{Run}
+use Rattle.choice.specs.declared.runs.Run.{Run}
 
--- a copy into a part
-pub put_is : (n k : ℕ) (xs ys bs : List ℕ) → ys ≡ bs → k ≡ length bs → put_mid n k xs ys ≡ put_at n bs xs
-unfolding put_at
-put_is n k xs ys bs same long =
-    ap (λ l. take n xs ++ (ys ++ l)) (drop-drop k n xs ∙ ap (λ m. drop (n + m) xs) long)
-    ∙ ap (λ l. take n xs ++ (l ++ drop (n + length bs) xs)) same
+-- a part after those that are written
+pub next_part : (fs bs xs ys : List ℕ) (n k m : ℕ) → length fs ≡ n → m ≡ n + k → ys ≡ fs ++ drop n xs → put_mid n k ys bs ≡ (fs ++ bs) ++ drop m xs
+next_part fs bs xs ys n k m long at_m so_far =
+    ap (λ l. put_mid n k l bs) so_far
+    ∙ ap (λ l. l ++ (bs ++ drop k (drop n (fs ++ drop n xs)))) (take_at fs (drop n xs) n long)
+    ∙ ap (λ l. fs ++ (bs ++ drop k l)) (drop_at fs (drop n xs) n long)
+    ∙ ap (λ l. fs ++ (bs ++ l)) (drop-drop k n xs ∙ ap (λ i. drop i xs) (sym at_m))
+    ∙ sym (append_assoc fs bs (drop m xs))
 
-pub put_none : (n : ℕ) (xs : List ℕ) → put_at n [] xs ≡ xs
-unfolding put_at
-put_none n xs = ap (λ m. take n xs ++ drop m xs) (omega arith) ∙ take-append-drop n xs
+-- a byte after those that are written
+pub next_byte : (fs xs ys : List ℕ) (n v : ℕ) → length fs ≡ n → n < length xs → ys ≡ fs ++ drop n xs → set ys n v ≡ (fs ++ v ∷ []) ++ drop (n + 1) xs
+next_byte fs xs ys n v long h so_far =
+    ap (λ l. set l n v) (so_far ∙ ap (λ l. fs ++ l) (drop_more xs n 0 h))
+    ∙ set_at fs (get_or xs n 0) (drop (n + 1) xs) v n long
+    ∙ sym (append_assoc fs (v ∷ []) (drop (n + 1) xs))
 
--- a part after another
-pub put_more : (n m : ℕ) (xs fs bs : List ℕ) → n + length fs ≤ length xs → m ≡ n + length fs → put_at m bs (put_at n fs xs) ≡ put_at n (fs ++ bs) xs
-unfolding put_at
-put_more n m xs fs bs h at_m =
-    let long : length (take n xs ++ fs) ≡ m = length-append (take n xs) fs ∙ ap (λ k. k + length fs) (length-take-le n xs (omega arith)) ∙ sym at_m in
-    let same : take n xs ++ (fs ++ drop (n + length fs) xs) ≡ (take n xs ++ fs) ++ drop m xs
-    = sym (append_assoc (take n xs) fs (drop (n + length fs) xs)) ∙ ap (λ k. (take n xs ++ fs) ++ drop k xs) (sym at_m) in
-    let front : take m (put_at n fs xs) ≡ take n xs ++ fs = ap (take m) same ∙ take_at (take n xs ++ fs) (drop m xs) m long in
-    let back : drop (m + length bs) (put_at n fs xs) ≡ drop (n + length (fs ++ bs)) xs
-    = sym (drop-drop (length bs) m (put_at n fs xs))
-    ∙ ap (λ l. drop (length bs) (drop m l)) same
-    ∙ ap (drop (length bs)) (drop_at (take n xs ++ fs) (drop m xs) m long)
-    ∙ drop-drop (length bs) m xs
-    ∙ ap (λ k. drop k xs) (let e = length-append fs bs in omega arith) in
-    ap (λ l. l ++ (bs ++ drop (m + length bs) (put_at n fs xs))) front
-    ∙ ap (λ l. (take n xs ++ fs) ++ (bs ++ l)) back
-    ∙ append_assoc (take n xs) fs (bs ++ drop (n + length (fs ++ bs)) xs)
-    ∙ ap (λ l. take n xs ++ l) (sym (append_assoc fs bs (drop (n + length (fs ++ bs)) xs)))
+-- a run after those that are written
+pub next_run : (rs : List Run) (bs xs ys : List ℕ) (i k : ℕ) (d : Run) → i < length rs → k ≡ 16 → bs ≡ run_bytes (get_or rs i d)
+    → ys ≡ flat_map run_bytes (take i rs) ++ drop (16 * i) xs → put_mid (16 * i) k ys bs ≡ flat_map run_bytes (take (i + 1) rs) ++ drop (16 * (i + 1)) xs
+next_run rs bs xs ys i k d h sixteen is so_far =
+    let long : length (flat_map run_bytes (take i rs)) ≡ 16 * i = length_runs (take i rs) ∙ ap (λ n. 16 * n) (length-take-le i rs (omega arith)) in
+    next_part (flat_map run_bytes (take i rs)) bs xs ys (16 * i) k (16 * (i + 1)) long (omega arith) so_far
+    ∙ ap (λ l. (flat_map run_bytes (take i rs) ++ l) ++ drop (16 * (i + 1)) xs) is
+    ∙ ap (λ l. l ++ drop (16 * (i + 1)) xs) (flat_map_more run_bytes [] (take i rs) (get_or rs i d) ∙ ap (flat_map run_bytes) (sym (take_more rs i d h)))
 
-pub length_put : (n : ℕ) (bs xs : List ℕ) → n + length bs ≤ length xs → length (put_at n bs xs) ≡ length xs
-unfolding put_at
-length_put n bs xs h = simp (length-append, length-drop) (let e = length-take-le n xs (omega arith) in omega arith)
+-- all runs
+pub runs_all : (rs : List Run) (xs ys : List ℕ) (i : ℕ) → length xs ≡ 16 * length rs → length rs ≤ i → i ≤ length rs
+    → ys ≡ flat_map run_bytes (take i rs) ++ drop (16 * i) xs → ys ≡ flat_map run_bytes rs
+runs_all rs xs ys i long low high so_far =
+    so_far
+    ∙ ap (λ l. flat_map run_bytes (take i rs) ++ l) (drop_all (16 * i) xs (omega arith))
+    ∙ append-nil (flat_map run_bytes (take i rs))
+    ∙ ap (flat_map run_bytes) (take_all i rs low)
 
-pub put_run_more : (n m : ℕ) (xs ys : List ℕ) (rs : List Run) (i : ℕ) (d : Run) → i < length rs → n + 16 * length rs ≤ length xs → m ≡ n + 16 * i
-    → ys ≡ put_at n (flat_map run_bytes (take i rs)) xs → put_at m (run_bytes (get_or rs i d)) ys ≡ put_at n (flat_map run_bytes (take (i + 1) rs)) xs
-put_run_more n m xs ys rs i d h fits at_m so_far =
-    let long : length (flat_map run_bytes (take i rs)) ≡ 16 * i = length_runs (take i rs) ∙ ap (λ k. 16 * k) (length-take-le i rs (omega arith)) in
-    let run = get_or rs i d in
-    let more : flat_map run_bytes (take i rs) ++ run_bytes run ≡ flat_map run_bytes (take (i + 1) rs)
-    = flat_map_more run_bytes [] (take i rs) run ∙ ap (flat_map run_bytes) (sym (take_more rs i d h)) in
-    ap (put_at m (run_bytes run)) so_far
-    ∙ put_more n m xs (flat_map run_bytes (take i rs)) (run_bytes run) (omega arith) (omega arith)
-    ∙ ap (λ l. put_at n l xs) more
-
-pub put_runs_all : (n : ℕ) (xs ys : List ℕ) (rs : List Run) (i : ℕ) → length rs ≤ i → ys ≡ put_at n (flat_map run_bytes (take i rs)) xs → ys ≡ put_at n (flat_map run_bytes rs) xs
-put_runs_all n xs ys rs i h so_far = so_far ∙ ap (λ l. put_at n (flat_map run_bytes l) xs) (take_all i rs h)
-
--- what stands at the front
-pub put_front : (bs xs : List ℕ) (n : ℕ) → length bs ≡ n → put_at 0 bs xs ≡ bs ++ drop n xs
-unfolding put_at
-put_front bs xs n long = ap (λ m. bs ++ drop m xs) (zero-add (length bs) ∙ long)
-
--- the parts of a reckoned line
-pub reckoned_put : (count named many : ℕ) (runs x0 x1 x2 x3 x4 x5 : List ℕ) (s1 s2 s3 s4 : ℕ) → 12 + length runs ≤ length x0
-    → x1 ≡ put_at 0 (4 ∷ []) x0 → s1 ≡ 1 → x2 ≡ put_at s1 (be8 count) x1 → s2 ≡ s1 + 8 → x3 ≡ put_at s2 (many ∷ []) x2 → s3 ≡ s2 + 1
-    → x4 ≡ put_at s3 runs x3 → s4 ≡ s3 + length runs → x5 ≡ put_at s4 (be2 named) x4
-    → x5 ≡ (4 ∷ (be8 count ++ many ∷ (runs ++ be2 named))) ++ drop (12 + length runs) x0
-reckoned_put count named many runs x0 x1 x2 x3 x4 x5 s1 s2 s3 s4 fits e1 p1 e2 p2 e3 p3 e4 p4 e5 =
-    let y2 : x2 ≡ put_at 0 (4 ∷ be8 count) x0 = e2 ∙ ap (put_at s1 (be8 count)) e1 ∙ put_more 0 s1 x0 (4 ∷ []) (be8 count) (omega arith) (omega arith) in
-    let y3 : x3 ≡ put_at 0 (4 ∷ (be8 count ++ many ∷ [])) x0
-    = e3 ∙ ap (put_at s2 (many ∷ [])) y2 ∙ put_more 0 s2 x0 (4 ∷ be8 count) (many ∷ []) (omega arith) (omega arith) in
-    let y4 : x4 ≡ put_at 0 (4 ∷ (be8 count ++ many ∷ runs)) x0
-    = e4 ∙ ap (put_at s3 runs) y3 ∙ put_more 0 s3 x0 (4 ∷ (be8 count ++ many ∷ [])) runs (omega arith) (omega arith) in
-    let y5 : x5 ≡ put_at 0 (4 ∷ (be8 count ++ many ∷ (runs ++ be2 named))) x0
-    = e5 ∙ ap (put_at s4 (be2 named)) y4 ∙ put_more 0 s4 x0 (4 ∷ (be8 count ++ many ∷ runs)) (be2 named) (omega arith) (omega arith) in
-    y5 ∙ put_front (4 ∷ (be8 count ++ many ∷ (runs ++ be2 named))) x0 (12 + length runs) (let e = length-append runs (be2 named) in omega arith)
+-- the parts of a reckoned line, where the runs take n bytes
+pub reckoned_written : (count many named n k l m : ℕ) (xs first middle last runs : List ℕ) → first ≡ be8 count → middle ≡ runs → last ≡ be2 named
+    → length runs ≡ n → k ≡ n → l ≡ 2 → m ≡ 10 + n + 2 → m ≤ length xs
+    → put_mid (10 + n) l (put_mid 10 k (set (put_mid 1 8 (set xs 0 4) first) 9 many) middle) last ≡ (4 ∷ (be8 count ++ many ∷ (runs ++ be2 named))) ++ drop m xs
+reckoned_written count many named n k l m xs first middle last runs first_is middle_is last_is long k_is l_is m_is fits =
+    let head : List ℕ = 4 ∷ be8 count in
+    let numbered : List ℕ = head ++ many ∷ [] in
+    let a : set xs 0 4 ≡ (4 ∷ []) ++ drop 1 xs = next_byte [] xs xs 0 4 refl (omega arith) refl in
+    let b : put_mid 1 8 (set xs 0 4) first ≡ head ++ drop 9 xs = next_part (4 ∷ []) first xs _ 1 8 9 refl refl a ∙ ap (λ f. (4 ∷ f) ++ drop 9 xs) first_is in
+    let c : set (put_mid 1 8 (set xs 0 4) first) 9 many ≡ numbered ++ drop 10 xs = next_byte head xs _ 9 many refl (omega arith) b in
+    let d : put_mid 10 k (set (put_mid 1 8 (set xs 0 4) first) 9 many) middle ≡ (numbered ++ runs) ++ drop (10 + n) xs
+    = next_part numbered middle xs _ 10 k (10 + n) refl (omega arith) c ∙ ap (λ f. (numbered ++ f) ++ drop (10 + n) xs) middle_is in
+    next_part (numbered ++ runs) last xs _ (10 + n) l m (length-append numbered runs ∙ ap (λ i. 10 + i) long) (omega arith) d
+    ∙ ap (λ f. ((numbered ++ runs) ++ f) ++ drop m xs) last_is
+    ∙ ap (λ f. (4 ∷ f) ++ drop m xs) (append_assoc (be8 count ++ many ∷ []) runs (be2 named) ∙ append_assoc (be8 count) (many ∷ []) (runs ++ be2 named))

@@ -1,14 +1,15 @@
 //! What lines of the record are on examples.
 use crate::write::{hand_bytes, refused_bytes, write_reckoned};
+use choice::runs::Run;
 use hextext::hex::next_line;
-use lines::line::{Hand, Line, Run, next_run, read_entry};
+use lines::line::{Hand, Line, next_run, read_entry};
 use lines::text::read_entry_line;
 use std::test::Fail;
 use wire::refusal::Refusal;
 
 #[test]
 fn reckoned_lines(rt: HostRuntime) -> Result<(), Fail> {
-    let runs = [Run { from: 1, to: 258 }, Run { from: 600, to: 601 }];
+    let runs = [Run { lo: 1, hi: 258 }, Run { lo: 600, hi: 601 }];
     let mut bytes = [0; 60];
     assert!(rt; write_reckoned(&mut bytes[0..43], 5, &runs, 3).is_none());
     assert!(rt; write_reckoned(&mut bytes, 5, &runs, 3) == Some(44));
@@ -19,11 +20,11 @@ fn reckoned_lines(rt: HostRuntime) -> Result<(), Fail> {
     let Some((first, rest)) = next_run(line.runs) else {
         return Err(Fail::new("no run"));
     };
-    assert!(rt; first.from == 1 && first.to == 258);
+    assert!(rt; first.lo == 1 && first.hi == 258);
     let Some((second, [])) = next_run(rest) else {
         return Err(Fail::new("no second run"));
     };
-    assert!(rt; second.from == 600 && second.to == 601);
+    assert!(rt; second.lo == 600 && second.hi == 601);
     Ok(())
 }
 

@@ -1,50 +1,20 @@
 -- A reply cut before its signature.
-use Rattle.std.proofs.Common.{◌≡◌, ℕ, ◌+◌, ◌-◌, Bool, true, false, List, ◌∷◌, ◌++◌, length, take, drop, replicate, Decides, sym, ap, ◌∙◌, subst, arith}
+use Rattle.std.proofs.Common.{◌≡◌, ℕ, List, ◌∷◌, ◌++◌, length, take, drop, replicate, sym, ap, ◌∙◌, subst, arith}
 use borrow.Rule.Slice.PartMut.{put_mid}
 use Rattle.std.proofs.lemmas.List.{append_assoc, append-nil, length-append, take_at, drop_at}
 use Rattle.wire.specs.Inputs.{bytes_of, reply}
 use Rattle.wire.specs.Numbers.{be4, be8}
+use Rattle.wire.specs.declared.input.Reading.{Reading}
 use Rattle.sign.specs.Replies.{front_of, ReplyParts}
 
 pub reply_parts : ReplyParts
 reply_parts r long =
-    let nonce = r.nonce in
-    let front = front_of r.server nonce r.midpoint r.radius in
-    let regrouped : nonce ++ (be8 r.midpoint ++ (be4 r.radius ++ r.signature)) ≡ (nonce ++ (be8 r.midpoint ++ be4 r.radius)) ++ r.signature
-    = sym (append_assoc nonce (be8 r.midpoint ++ be4 r.radius) r.signature) in
-    let whole : 2 ∷ r.server ∷ (nonce ++ (be8 r.midpoint ++ (be4 r.radius ++ r.signature))) ≡ front ++ r.signature
-    = ap (λ l. 2 ∷ r.server ∷ l) regrouped in
-    let many : length front ≡ 46 = let e = length-append nonce (be8 r.midpoint ++ be4 r.radius) in omega arith in
+    let nonce = r.reading.nonce in
+    let middle = be8 r.reading.midpoint ++ be4 r.reading.radius in
+    let front = front_of r.reading in
+    let whole : bytes_of (reply r) ≡ front ++ r.signature = ap (λ l. 2 ∷ r.reading.server ∷ l) (sym (append_assoc nonce middle r.signature)) in
+    let many : length front ≡ 46 = let e = length-append nonce middle in omega arith in
     (ap (take 46) whole ∙ take_at front r.signature 46 many, ap (drop 46) whole ∙ drop_at front r.signature 46 many)
-
--- what is accepted of the parts is accepted of the message
-module _ (valid signed : List ℕ → List ℕ → List ℕ → Type 0) (law : (k b s : List ℕ) → valid k b s → signed k b s) where
-  pub record Judged (key message : List ℕ) (r : Bool) : Type 0 where
-    pub decides : Decides r ((length message ≡ 110) × valid key (take 46 message) (drop 46 message))
-    pub signs : r ≡ true → signed key (take 46 message) (drop 46 message)
-
-  pub judged : (key message front signature : List ℕ) (r : Bool) → front ≡ take (length message - 64) message → signature ≡ drop (length message - 64) message
-      → length front + 64 ≡ length message → length front ≡ 46 → Decides r (valid key front signature) → Judged key message r
-  judged key message front signature r f s all many d =
-      let at46 : length message - 64 ≡ 46 = omega arith in
-      let f_is : front ≡ take 46 message = f ∙ ap (λ n. take n message) at46 in
-      let s_is : signature ≡ drop 46 message = s ∙ ap (λ n. drop n message) at46 in
-      let to : valid key front signature → valid key (take 46 message) (drop 46 message)
-      = λ v. subst (λ x. valid key (take 46 message) x) s_is (subst (λ x. valid key x signature) f_is v) in
-      let back : valid key (take 46 message) (drop 46 message) → valid key front signature
-      = λ v. subst (λ x. valid key x signature) (sym f_is) (subst (λ x. valid key (take 46 message) x) (sym s_is) v) in
-      record {
-        decides = (λ yes. (omega arith, to (d.0 yes)), λ p. d.1 (back p.1));
-        signs = λ yes. law key (take 46 message) (drop 46 message) (to (d.0 yes));
-      }
-
-  -- a message of another length is not accepted
-  pub judged_not : (key message : List ℕ) → (length message ≡ 110 → ⊥) → Judged key message false
-  judged_not key message other =
-      record {
-        decides = (λ e. let z : ◌≡◌ {A = ℕ} 0 1 = cc in absurd (omega arith), λ p. absurd (other p.0));
-        signs = λ e. let z : ◌≡◌ {A = ℕ} 0 1 = cc in absurd (omega arith);
-      }
 
 -- bytes and then a signature, written over zeros
 pub joined_is : (f s f' s' : List ℕ) → f' ≡ f → s' ≡ s → length f ≡ 46 → put_mid 46 64 (put_mid 0 46 (replicate 110 0) f') s' ≡ f ++ s
@@ -58,22 +28,23 @@ joined_is f s f' s' same_f same_s many =
 
 -- the parts of a reply that was put together
 module _ (valid : List ℕ → List ℕ → List ℕ → Type 0) where
-  pub record Put (key : List ℕ) (server : ℕ) (nonce : List ℕ) (midpoint radius : ℕ) (r : List ℕ) : Type 0 where
-    pub value : r ≡ bytes_of (reply (record { server = server; nonce = nonce; midpoint = midpoint; radius = radius; signature = drop 46 r }))
-    pub front : take 46 r ≡ front_of server nonce midpoint radius
+  pub record Put (key : List ℕ) (reading : Reading) (r : List ℕ) : Type 0 where
+    pub value : r ≡ bytes_of (reply (record { reading = reading; signature = drop 46 r }))
+    pub front : take 46 r ≡ front_of reading
     pub accepted : valid key (take 46 r) (drop 46 r)
 
-  pub put_together : (key : List ℕ) (server : ℕ) (nonce : List ℕ) (midpoint radius : ℕ) (f s r : List ℕ) → length f ≡ 46 → f ≡ front_of server nonce midpoint radius
-      → r ≡ f ++ s → valid key f s → Put key server nonce midpoint radius r
-  put_together key server nonce midpoint radius f s r many f_is r-is v =
+  pub put_together : (key : List ℕ) (reading : Reading) (f s r : List ℕ) → length f ≡ 46 → f ≡ front_of reading
+      → r ≡ f ++ s → valid key f s → Put key reading r
+  put_together key reading f s r many f_is r-is v =
+      let middle = be8 reading.midpoint ++ be4 reading.radius in
       let front_is : take 46 r ≡ f = ap (take 46) r-is ∙ take_at f s 46 many in
       let back_is : drop 46 r ≡ s = ap (drop 46) r-is ∙ drop_at f s 46 many in
       record {
         value =
             r-is
             ∙ ap (λ l. l ++ s) f_is
-            ∙ ap (λ l. 2 ∷ server ∷ l) (append_assoc nonce (be8 midpoint ++ be4 radius) s)
-            ∙ ap (λ l. 2 ∷ server ∷ (nonce ++ (be8 midpoint ++ (be4 radius ++ l)))) (sym back_is);
+            ∙ ap (λ l. 2 ∷ reading.server ∷ l) (append_assoc reading.nonce middle s)
+            ∙ ap (λ l. 2 ∷ reading.server ∷ (reading.nonce ++ (middle ++ l))) (sym back_is);
         front = front_is ∙ f_is;
         accepted = subst (λ x. valid key (take 46 r) x) (sym back_is) (subst (λ x. valid key x s) (sym front_is) v);
       }

@@ -1,3 +1,2 @@
 -- Lemmas that the answers cite.
-mod Bytes
 mod Fronts

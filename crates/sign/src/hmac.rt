@@ -1,9 +1,9 @@
 //! A stand-in for signatures: an authentication code under a key that both sides have.
-ghost use Rattle.std.specs.Prelude.{◌≡◌, Decides};
+ghost use Rattle.std.specs.Prelude.{◌≡◌};
 ghost use Rattle.sign.specs.Stand.{stand_in};
 
 use crate::scheme::Signatures;
-use digest::hmac_sha256;
+use digest::{hmac_sha256, same};
 
 /// HMAC-SHA-256 in place of signatures: the signature is the code of the bytes under the key, and then 32 zero bytes.
 ///
@@ -11,17 +11,6 @@ use digest::hmac_sha256;
 /// unchanged from one who has the key, to another who has it, and nothing to anybody else.
 #[derive(Clone, Copy)]
 pub struct HmacSignatures;
-
-// Whether two signatures are equal. It reads every byte of both whatever it finds.
-fn same(a: &[u8; 64], b: &[u8; 64]) -> bool
-    ensures decides { Decides result (a.now ≡ b.now) }
-{
-    let mut differs = 0;
-    for i in 0..64 {
-        differs |= a[i] ^ b[i];
-    }
-    differs == 0
-}
 
 impl Signatures for HmacSignatures {
     ghost key_of = { λ secret. secret };

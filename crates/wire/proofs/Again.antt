@@ -1,13 +1,18 @@
 -- What is read is written again as the bytes that it was read from: no two strings of bytes are one message.
-use Rattle.std.proofs.Common.{◌≡◌, ℕ, zero, suc, ◌+◌, ◌*◌, ◌/◌, ◌%◌, ◌<◌, ◌≤◌, Bool, true, false, cond, eqb, ◌⊎◌, List, [], ◌∷◌, ◌++◌, length, get_or, take, drop, Ok, Err, Result, sym, refl, ap, ◌∙◌, inl, inr, ⊎_elim, arith}
+use Rattle.std.proofs.Common.{◌≡◌, ℕ, zero, suc, ◌+◌, ◌*◌, ◌/◌, ◌%◌, ◌<◌, ◌≤◌, Bool, true, false, cond, eqb, ◌⊎◌, List, [], ◌∷◌, ◌++◌, length, get_or, take, drop, Some, None, Option, Ok, Err, Result, sym, refl, ap, ◌∙◌, inl, inr, ⊎_elim, arith}
 use Rattle.std.proofs.lemmas.List.{append-nil, drop_all, drop-drop, drop_more, length-drop, take-append-drop, nil_from_length}
 use Rattle.std.proofs.lemmas.Bool.{eqb-true}
-use Rattle.wire.specs.Inputs.{Message, reply_of, setup_of, count_of, ask_of, mark_of, event_of, in_range}
+use Rattle.std.proofs.lemmas.Bool.Decides.{nat_tests}
+use Rattle.wire.specs.Inputs.{Message, reply_of, setup_of, count_of, ask_of, mark_of, event_of, body_by, in_range}
 use Rattle.wire.specs.Inputs as Inputs
-use Rattle.wire.specs.Laws.{Bytes, MessageLaws, MessagesWrittenBack}
+use Rattle.wire.specs.Kinds.{kind_of}
+use Rattle.wire.specs.Kinds as Kinds
+use Rattle.wire.specs.Refusals.{number_of, refusal_of}
+use Rattle.wire.specs.Laws.{Bytes, KindsByNumber, MessageLaws, MessagesWrittenBack, RefusalsByNumber}
+use Rattle.wire.specs.declared.input.Kind.{Kind}
 use Rattle.wire.specs.Numbers.{be2, be4, be8, number2, number4, number8}
 use Rattle.wire.specs.declared.refusal.Refusal.{Refusal}
-use Rattle.wire.specs.declared.refusal.Refusal.TheVariants.{Malformed}
+use Rattle.wire.specs.declared.refusal.Refusal.TheVariants.{Malformed, OutOfRange, UnknownNonce, WrongSignature, TooLate, UnknownEvent, NoWorldLeft, ClockWentBack, OldestMomentGone, Full}
 use Rattle.wire.proofs.Back.{messages_back, messages_differ}
 
 -- the bytes of the number that bytes are
@@ -172,25 +177,45 @@ mark_again bs m b h = sized bs 0 _ _ Malformed m _ refl h (λ l e. ap Inputs.byt
 event_again : (bs : List ℕ) (m : Message) → Bytes bs → event_of bs ≡ Ok m → Inputs.bytes_of m ≡ 20 ∷ bs
 event_again bs m b h = sized bs 8 _ _ Malformed m _ refl h (λ l e. ap Inputs.bytes_of (sym (value_of e)) ∙ ap (λ r. 20 ∷ r) (eight_last 0 bs b l))
 
-pub of_kind : (xs bs : List ℕ) (k n : ℕ) → eqb k n ≡ true → xs ≡ n ∷ bs → xs ≡ k ∷ bs
-of_kind xs bs k n h e = e ∙ ap (λ z. z ∷ bs) (sym (eqb-true k n h))
+kind_from : (n : ℕ) (k : Kind) → kind_of n ≡ Some k → n ≡ Kinds.number_of k
+kind_from n k is = grind (arith, nat_tests)
+
+kinds : KindsByNumber
+kinds Kind.Reply n = (kind_from n Kind.Reply, λ is. ap kind_of is)
+kinds Kind.Settings n = (kind_from n Kind.Settings, λ is. ap kind_of is)
+kinds Kind.Count n = (kind_from n Kind.Count, λ is. ap kind_of is)
+kinds Kind.Ask n = (kind_from n Kind.Ask, λ is. ap kind_of is)
+kinds Kind.Mark n = (kind_from n Kind.Mark, λ is. ap kind_of is)
+kinds Kind.Event n = (kind_from n Kind.Event, λ is. ap kind_of is)
+
+messages_by : (k : Option Kind) (bs : List ℕ) (n : ℕ) (m : Message) → Bytes bs → kind_of n ≡ k → body_by k bs ≡ Ok m → Inputs.bytes_of m ≡ n ∷ bs
+messages_by None bs n m b is h = no_value h
+messages_by (Some Kind.Reply) bs n m b is h = reply_again bs m b h ∙ ap (λ x. x ∷ bs) (sym (kind_from n Kind.Reply is))
+messages_by (Some Kind.Settings) bs n m b is h = settings_again bs m b h ∙ ap (λ x. x ∷ bs) (sym (kind_from n Kind.Settings is))
+messages_by (Some Kind.Count) bs n m b is h = count_again bs m b h ∙ ap (λ x. x ∷ bs) (sym (kind_from n Kind.Count is))
+messages_by (Some Kind.Ask) bs n m b is h = ask_again bs m b h ∙ ap (λ x. x ∷ bs) (sym (kind_from n Kind.Ask is))
+messages_by (Some Kind.Mark) bs n m b is h = mark_again bs m b h ∙ ap (λ x. x ∷ bs) (sym (kind_from n Kind.Mark is))
+messages_by (Some Kind.Event) bs n m b is h = event_again bs m b h ∙ ap (λ x. x ∷ bs) (sym (kind_from n Kind.Event is))
 
 messages_again : MessagesWrittenBack
 unfolding Bytes
 messages_again [] m b h = no_value h
-messages_again (k ∷ bs) m (p, b) h =
-    ⊎_elim (λ q. of_kind _ bs k 2 q.0 (reply_again bs m b q.1))
-    (λ r. ⊎_elim (λ q. of_kind _ bs k 16 q.0 (settings_again bs m b q.1))
-    (λ r. ⊎_elim (λ q. of_kind _ bs k 17 q.0 (count_again bs m b q.1))
-    (λ r. ⊎_elim (λ q. of_kind _ bs k 18 q.0 (ask_again bs m b q.1))
-    (λ r. ⊎_elim (λ q. of_kind _ bs k 19 q.0 (mark_again bs m b q.1))
-    (λ r. ⊎_elim (λ q. of_kind _ bs k 20 q.0 (event_again bs m b q.1)) (λ r. no_value r.1)
-    (pick (eqb k 20) _ _ m r.1))
-    (pick (eqb k 19) _ _ m r.1))
-    (pick (eqb k 18) _ _ m r.1))
-    (pick (eqb k 17) _ _ m r.1))
-    (pick (eqb k 16) _ _ m r.1))
-    (pick (eqb k 2) _ _ m h)
+messages_again (n ∷ bs) m (p, b) h = messages_by (kind_of n) bs n m b refl h
+
+refusal_from : (n : ℕ) (e : Refusal) → refusal_of n ≡ Some e → n ≡ number_of e
+refusal_from n e is = grind (arith, nat_tests)
+
+refusals : RefusalsByNumber
+refusals Malformed n = (refusal_from n Malformed, λ is. ap refusal_of is)
+refusals OutOfRange n = (refusal_from n OutOfRange, λ is. ap refusal_of is)
+refusals UnknownNonce n = (refusal_from n UnknownNonce, λ is. ap refusal_of is)
+refusals WrongSignature n = (refusal_from n WrongSignature, λ is. ap refusal_of is)
+refusals TooLate n = (refusal_from n TooLate, λ is. ap refusal_of is)
+refusals UnknownEvent n = (refusal_from n UnknownEvent, λ is. ap refusal_of is)
+refusals NoWorldLeft n = (refusal_from n NoWorldLeft, λ is. ap refusal_of is)
+refusals ClockWentBack n = (refusal_from n ClockWentBack, λ is. ap refusal_of is)
+refusals OldestMomentGone n = (refusal_from n OldestMomentGone, λ is. ap refusal_of is)
+refusals Full n = (refusal_from n Full, λ is. ap refusal_of is)
 
 pub message_laws : MessageLaws
-message_laws = record { back = messages_back; again = messages_again; differ = messages_differ }
+message_laws = record { kinds = kinds; refusals = refusals; back = messages_back; again = messages_again; differ = messages_differ }

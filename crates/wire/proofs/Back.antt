@@ -16,7 +16,7 @@ pub back2 : (n : ℕ) (rest : List ℕ) → n < 2 ^ 16 → number2 (be2 n ++ res
 unfolding number2
 back2 n rest h = omega arith
 
-pub back4 : (n : ℕ) (rest : List ℕ) → n < 2 ^ 32 → number4 (be4 n ++ rest) ≡ n
+back4 : (n : ℕ) (rest : List ℕ) → n < 2 ^ 32 → number4 (be4 n ++ rest) ≡ n
 unfolding number4
 back4 n rest h =
     let p = div-div-eq-div-mul n 256 256 in
@@ -41,22 +41,22 @@ pub same_length : (bs : List ℕ) (n : ℕ) {X : Type 0} (x y : X) → length bs
 same_length bs n x y h = ap (λ b. cond b x y) (eq-eqb (length bs) n h)
 
 reply_same : (s : ℕ) (n n' : List ℕ) (m m' d d' : ℕ) (g g' : List ℕ) → n ≡ n' → m ≡ m' → d ≡ d' → g ≡ g'
-    → ◌≡◌ {A = Result Message Refusal} (Ok (reply (record { server = s; nonce = n; midpoint = m; radius = d; signature = g }))) (Ok (reply (record { server = s; nonce = n'; midpoint = m'; radius = d'; signature = g' })))
+    → ◌≡◌ {A = Result Message Refusal} (Ok (reply (record { reading = record { server = s; nonce = n; midpoint = m; radius = d }; signature = g }))) (Ok (reply (record { reading = record { server = s; nonce = n'; midpoint = m'; radius = d' }; signature = g' })))
 reply_same s n n' m m' d d' g g' p q r t = cc
 
 reply_back : (r : Reply) → MessageFits (reply r) → decode (Inputs.bytes_of (reply r)) ≡ Ok (reply r)
 reply_back r (nonce_long, mid, rad, sig_long) =
-    let tail = be8 r.midpoint ++ (be4 r.radius ++ r.signature) in
-    let bs = r.server ∷ (r.nonce ++ tail) in
-    let e1 = length-append r.nonce tail in
+    let tail = be8 r.reading.midpoint ++ (be4 r.reading.radius ++ r.signature) in
+    let bs = r.reading.server ∷ (r.reading.nonce ++ tail) in
+    let e1 = length-append r.reading.nonce tail in
     let all : length bs ≡ 109 = omega arith in
-    let nonce_is : take 32 (drop 1 bs) ≡ r.nonce = take_at r.nonce tail 32 nonce_long in
-    let at33 : drop 33 bs ≡ tail = drop_at r.nonce tail 32 nonce_long in
-    let mid_is : number8 (drop 33 bs) ≡ r.midpoint = ap number8 at33 ∙ back8 r.midpoint (be4 r.radius ++ r.signature) mid in
-    let at41 : drop 41 bs ≡ be4 r.radius ++ r.signature = sym (drop-drop 8 33 bs) ∙ ap (drop 8) at33 in
-    let rad_is : number4 (drop 41 bs) ≡ r.radius = ap number4 at41 ∙ back4 r.radius r.signature rad in
+    let nonce_is : take 32 (drop 1 bs) ≡ r.reading.nonce = take_at r.reading.nonce tail 32 nonce_long in
+    let at33 : drop 33 bs ≡ tail = drop_at r.reading.nonce tail 32 nonce_long in
+    let mid_is : number8 (drop 33 bs) ≡ r.reading.midpoint = ap number8 at33 ∙ back8 r.reading.midpoint (be4 r.reading.radius ++ r.signature) mid in
+    let at41 : drop 41 bs ≡ be4 r.reading.radius ++ r.signature = sym (drop-drop 8 33 bs) ∙ ap (drop 8) at33 in
+    let rad_is : number4 (drop 41 bs) ≡ r.reading.radius = ap number4 at41 ∙ back4 r.reading.radius r.signature rad in
     let sig_is : drop 45 bs ≡ r.signature = sym (drop-drop 4 41 bs) ∙ ap (drop 4) at41 in
-    same_length bs 109 _ _ all ∙ reply_same r.server _ r.nonce _ r.midpoint _ r.radius _ r.signature nonce_is mid_is rad_is sig_is
+    same_length bs 109 _ _ all ∙ reply_same r.reading.server _ r.reading.nonce _ r.reading.midpoint _ r.reading.radius _ r.signature nonce_is mid_is rad_is sig_is
 
 settings_back : (s : Setup) → MessageFits (settings s) → decode (Inputs.bytes_of (settings s)) ≡ Ok (settings s)
 settings_back s (good, long) =

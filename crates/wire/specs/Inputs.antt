@@ -1,10 +1,12 @@
 -- The messages that the box takes: their bytes, and how bytes are read.
 -- A message is read by its first byte, its kind; what follows has a fixed length, but for settings, whose length
 -- follows from how many servers they name. A number stands high byte first.
-use Rattle.std.specs.Prelude.{ℕ, ◌+◌, ◌*◌, Bool, cond, ◌&&◌, List, [], ◌∷◌, ◌++◌, length, take, drop, Ok, Err, Result, ◌==◌, nat_le, nat_lt, slice_index}
+use Rattle.std.specs.Prelude.{ℕ, ◌+◌, ◌*◌, Bool, cond, ◌&&◌, List, [], ◌∷◌, ◌++◌, length, take, drop, Some, None, Option, Ok, Err, Result, ◌==◌, nat_le, nat_lt, slice_index}
 use Rattle.wire.specs.Numbers.{be4, be8, number4, number8}
 use Rattle.wire.specs.declared.refusal.Refusal.{Refusal}
 use Rattle.wire.specs.declared.refusal.Refusal.TheVariants.{Malformed, OutOfRange}
+use Rattle.wire.specs.Kinds.{kind_of}
+use Rattle.wire.specs.declared.input.Kind.{Kind}
 use Rattle.wire.specs.declared.input.Input.{Input}
 use Rattle.wire.specs.declared.input.Input.TheVariants.{Settings, Count, Ask, Mark, Event}
 use Rattle.wire.specs.declared.input.Reply.{Reply}
@@ -40,7 +42,8 @@ seen (Err e) = Err e
 
 -- the bytes of every message
 abbrev pub bytes_of : Message → List ℕ
-bytes_of (reply r) = 2 ∷ r.server ∷ (r.nonce ++ (be8 r.midpoint ++ (be4 r.radius ++ r.signature)))
+bytes_of (reply r) =
+    2 ∷ r.reading.server ∷ (r.reading.nonce ++ (be8 r.reading.midpoint ++ (be4 r.reading.radius ++ r.signature)))
 bytes_of (settings s) = 16 ∷ s.servers ∷ s.faulty ∷ (be4 s.drift ++ s.keys)
 bytes_of (count c) = 17 ∷ be8 c
 bytes_of (ask h) = 18 ∷ h ∷ []
@@ -52,10 +55,13 @@ abbrev pub reply_of : List ℕ → Result Message Refusal
 reply_of bs =
     cond (length bs == 109)
     (Ok (reply (record {
-      server = slice_index bs 0;
-      nonce = take 32 (drop 1 bs);
-      midpoint = number8 (drop 33 bs);
-      radius = number4 (drop 41 bs);
+      reading =
+          record {
+            server = slice_index bs 0;
+            nonce = take 32 (drop 1 bs);
+            midpoint = number8 (drop 33 bs);
+            radius = number4 (drop 41 bs);
+          };
       signature = drop 45 bs;
     })))
     (Err Malformed)
@@ -90,16 +96,20 @@ abbrev pub event_of : List ℕ → Result Message Refusal
 event_of bs = cond (length bs == 8) (Ok (event (number8 bs))) (Err Malformed)
 
 -- what follows a kind
-abbrev pub body_of : ℕ → List ℕ → Result Message Refusal
-body_of kind bs =
-    cond (kind == 2) (reply_of bs)
-    (cond (kind == 16) (setup_of bs)
-    (cond (kind == 17) (count_of bs)
-    (cond (kind == 18) (ask_of bs)
-    (cond (kind == 19) (mark_of bs)
-    (cond (kind == 20) (event_of bs) (Err Malformed))))))
+abbrev pub body_of : Kind → List ℕ → Result Message Refusal
+body_of Kind.Reply bs = reply_of bs
+body_of Kind.Settings bs = setup_of bs
+body_of Kind.Count bs = count_of bs
+body_of Kind.Ask bs = ask_of bs
+body_of Kind.Mark bs = mark_of bs
+body_of Kind.Event bs = event_of bs
+
+-- the same, where the kind may be unknown
+abbrev pub body_by : Option Kind → List ℕ → Result Message Refusal
+body_by (Some kind) bs = body_of kind bs
+body_by None bs = Err Malformed
 
 -- every list of bytes is one message or has one fault
 abbrev pub decode : List ℕ → Result Message Refusal
 decode [] = Err Malformed
-decode (kind ∷ bs) = body_of kind bs
+decode (number ∷ bs) = body_by (kind_of number) bs

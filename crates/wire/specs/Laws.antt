@@ -1,8 +1,12 @@
 -- What holds of all messages to the box: what is written is read back as itself, what is read is written as it was, and
 -- two that differ have different bytes.
 -- A struct of the code is a bare record here, so that its numbers fit their width is said.
-use Rattle.std.specs.Prelude.{◌≡◌, ℕ, ◌*◌, ◌^◌, ◌<◌, true, List, [], ◌∷◌, length, Ok, Err, Result}
+use Rattle.std.specs.Prelude.{◌≡◌, ◌↔◌, ℕ, ◌*◌, ◌^◌, ◌<◌, true, List, [], ◌∷◌, length, Some, Ok, Err, Result}
 use Rattle.wire.specs.Inputs.{Message, reply, settings, count, ask, mark, event, bytes_of, decode, in_range}
+use Rattle.wire.specs.Kinds.{kind_of}
+use Rattle.wire.specs.Kinds as Kinds
+use Rattle.wire.specs.Refusals.{number_of, refusal_of}
+use Rattle.wire.specs.declared.input.Kind.{Kind}
 use Rattle.wire.specs.declared.refusal.Refusal.{Refusal}
 
 -- all of a list are bytes
@@ -13,7 +17,7 @@ Bytes (b ∷ bs) = (b < 256) × Bytes bs
 -- a message whose parts fit the places that they have in its bytes, and which is in range
 abbrev pub MessageFits : Message → Type 0
 MessageFits (reply r) =
-    (length r.nonce ≡ 32) × (r.midpoint < 2 ^ 64) × (r.radius < 2 ^ 32) × (length r.signature ≡ 64)
+    (length r.reading.nonce ≡ 32) × (r.reading.midpoint < 2 ^ 64) × (r.reading.radius < 2 ^ 32) × (length r.signature ≡ 64)
 MessageFits (settings s) =
     (in_range s.servers s.faulty s.drift ≡ true) × (length s.keys ≡ 32 * s.servers)
 MessageFits (count c) = c < 2 ^ 64
@@ -33,8 +37,18 @@ MessagesWrittenBack = (bs : List ℕ) (m : Message) → Bytes bs → decode bs �
 abbrev pub MessagesDiffer : Type 0
 MessagesDiffer = (m n : Message) → MessageFits m → MessageFits n → bytes_of m ≡ bytes_of n → m ≡ n
 
--- the three together
+-- a kind's number is of that kind and of no other
+abbrev pub KindsByNumber : Type 0
+KindsByNumber = (k : Kind) (n : ℕ) → kind_of n ≡ Some k ↔ n ≡ Kinds.number_of k
+
+-- a refusal's number is of that refusal and of no other
+abbrev pub RefusalsByNumber : Type 0
+RefusalsByNumber = (e : Refusal) (n : ℕ) → refusal_of n ≡ Some e ↔ n ≡ number_of e
+
+-- these together
 pub record MessageLaws : Type 0 where
+  pub kinds : KindsByNumber
+  pub refusals : RefusalsByNumber
   pub back : MessagesReadBack
   pub again : MessagesWrittenBack
   pub differ : MessagesDiffer

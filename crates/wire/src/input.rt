@@ -1,18 +1,30 @@
 //! The messages that the box takes.
+//!
+//! A body is taken apart by `let .. else`, part after part: a body that lacks a part is malformed.
 ghost use Rattle.std.specs.Prelude.{◌≡◌};
-ghost use Rattle.wire.specs.Inputs.{decode, seen, reply_of, setup_of, count_of, ask_of, mark_of, event_of, in_range};
+ghost use Rattle.std.specs.Option.{ok_or};
+ghost use Rattle.wire.specs.Inputs.{decode, seen, reply_of, setup_of, ask_of, mark_of, in_range};
+ghost use Rattle.wire.specs.Kinds.{kind_of};
 ghost use Rattle.wire.specs.Laws.{MessageLaws};
+ghost use Rattle.wire.specs.declared.refusal.Refusal.TheVariants.{Malformed};
 
-use crate::number::{split_u32, split_u64};
+use crate::number::{read_number, split_number};
 use crate::refusal::Refusal;
 
-/// A server's reply to a request.
+/// What a server says in its reply: which server it is, to which nonce, and that the time is the midpoint, give or take
+/// the radius.
 #[derive(Clone, Copy)]
-pub struct Reply {
+pub struct Reading {
     pub server: u8,
     pub nonce: [u8; 32],
     pub midpoint: u64,
     pub radius: u32,
+}
+
+/// A server's reply to a request: what it says, and its signature of that.
+#[derive(Clone, Copy)]
+pub struct Reply {
+    pub reading: Reading,
     pub signature: [u8; 64],
 }
 
@@ -43,17 +55,35 @@ pub enum Input<'a> {
     Event(u64),
 }
 
-const REPLY: u8 = 2;
+/// The kind of a message, which is its first byte.
+#[derive(Clone, Copy, Debug, PartialEq, Eq)]
+pub enum Kind {
+    Reply = 2,
+    Settings = 16,
+    Count = 17,
+    Ask = 18,
+    Mark = 19,
+    Event = 20,
+}
 
-const SETTINGS: u8 = 16;
+impl TryFrom<u8> for Kind {
+    /// A number that no kind has is malformed.
+    type Error = Refusal;
 
-const COUNT: u8 = 17;
+    ghost try_from_gives = { λ number r. r ≡ ok_or (kind_of number) Malformed };
 
-const ASK: u8 = 18;
-
-const MARK: u8 = 19;
-
-const EVENT: u8 = 20;
+    fn try_from(number: u8) -> Result<Kind, Refusal> {
+        match number {
+            2 => Ok(Kind::Reply),
+            16 => Ok(Kind::Settings),
+            17 => Ok(Kind::Count),
+            18 => Ok(Kind::Ask),
+            19 => Ok(Kind::Mark),
+            20 => Ok(Kind::Event),
+            _ => Err(Refusal::Malformed),
+        }
+    }
+}
 
 fn read_reply(body: &[u8]) -> Result<Input<'_>, Refusal>
     ensures value { seen result ≡ reply_of body.now }
@@ -64,20 +94,23 @@ fn read_reply(body: &[u8]) -> Result<Input<'_>, Refusal>
     let Some((nonce, rest)) = rest.split_first_chunk::<32>() else {
         return Err(Refusal::Malformed);
     };
-    let Some((midpoint, rest)) = split_u64(rest) else {
+    let Some((midpoint, rest)) = split_number(rest) else {
         return Err(Refusal::Malformed);
     };
-    let Some((radius, rest)) = split_u32(rest) else {
+    let Some((radius, rest)) = split_number(rest) else {
         return Err(Refusal::Malformed);
     };
     let Some((signature, [])) = rest.split_first_chunk::<64>() else {
         return Err(Refusal::Malformed);
     };
-    Ok(Input::Reply(Reply {
+    let reading = Reading {
         server: *server,
         nonce: *nonce,
         midpoint,
         radius,
+    };
+    Ok(Input::Reply(Reply {
+        reading,
         signature: *signature,
     }))
 }
@@ -86,7 +119,7 @@ fn read_reply(body: &[u8]) -> Result<Input<'_>, Refusal>
 fn in_range(servers: u8, faulty: u8, drift: u32) -> bool
     ensures value { result ≡ in_range servers faulty drift }
 {
-    1 <= servers && servers <= 10 && faulty < servers && drift <= 1000
+    (1..=10).contains(&servers) && faulty < servers && drift <= 1000
 }
 
 fn read_settings(body: &[u8]) -> Result<Input<'_>, Refusal>
@@ -95,7 +128,7 @@ fn read_settings(body: &[u8]) -> Result<Input<'_>, Refusal>
     let [servers, faulty, rest @ ..] = body else {
         return Err(Refusal::Malformed);
     };
-    let Some((drift, keys)) = split_u32(rest) else {
+    let Some((drift, keys)) = split_number(rest) else {
         return Err(Refusal::Malformed);
     };
     let servers = *servers;
@@ -112,15 +145,6 @@ fn read_settings(body: &[u8]) -> Result<Input<'_>, Refusal>
         drift,
         keys,
     }))
-}
-
-fn read_count(body: &[u8]) -> Result<Input<'_>, Refusal>
-    ensures value { seen result ≡ count_of body.now }
-{
-    let Some((count, [])) = split_u64(body) else {
-        return Err(Refusal::Malformed);
-    };
-    Ok(Input::Count(count))
 }
 
 fn read_ask(body: &[u8]) -> Result<Input<'_>, Refusal>
@@ -141,30 +165,21 @@ fn read_mark(body: &[u8]) -> Result<Input<'_>, Refusal>
     Ok(Input::Mark)
 }
 
-fn read_event(body: &[u8]) -> Result<Input<'_>, Refusal>
-    ensures value { seen result ≡ event_of body.now }
-{
-    let Some((count, [])) = split_u64(body) else {
-        return Err(Refusal::Malformed);
-    };
-    Ok(Input::Event(count))
-}
-
 /// The message that these bytes are, if the box takes it.
+#[tactic(auto, using(crate::proofs::Again::message_laws))]
 pub fn read_input(bytes: &[u8]) -> Result<Input<'_>, Refusal>
     ensures value { seen result ≡ decode bytes.now }
     ensures laws { MessageLaws }
 {
-    let [kind, rest @ ..] = bytes else {
+    let [kind, body @ ..] = bytes else {
         return Err(Refusal::Malformed);
     };
-    match *kind {
-        REPLY => read_reply(rest),
-        SETTINGS => read_settings(rest),
-        COUNT => read_count(rest),
-        ASK => read_ask(rest),
-        MARK => read_mark(rest),
-        EVENT => read_event(rest),
-        _ => Err(Refusal::Malformed),
+    match Kind::try_from(*kind)? {
+        Kind::Reply => read_reply(body),
+        Kind::Settings => read_settings(body),
+        Kind::Count => Ok(Input::Count(read_number(body)?)),
+        Kind::Ask => read_ask(body),
+        Kind::Mark => read_mark(body),
+        Kind::Event => Ok(Input::Event(read_number(body)?)),
     }
 }

@@ -15,6 +15,13 @@ fn messages_to_the_box(rt: HostRuntime) {
 }
 
 #[test]
+fn refusals_by_number(rt: HostRuntime) {
+    assert!(rt; u8::from(Refusal::Full) == 10);
+    assert!(rt; Refusal::try_from(3) == Ok(Refusal::UnknownNonce));
+    assert!(rt; Refusal::try_from(11) == Err(Refusal::Malformed));
+}
+
+#[test]
 fn settings(rt: HostRuntime) -> Result<(), Fail> {
     let mut bytes = [0; 71];
     bytes[0] = 16;
@@ -46,6 +53,7 @@ fn a_reply_cut_at_every_length(rt: HostRuntime) -> Result<(), Fail> {
     let Ok(Input::Reply(reply)) = read_input(&bytes[0..110]) else {
         return Err(Fail::new("no reply"));
     };
-    assert!(rt; reply.server == 7 && reply.midpoint == 0 && reply.radius == 5);
+    let reading = reply.reading;
+    assert!(rt; reading.server == 7 && reading.midpoint == 0 && reading.radius == 5);
     Ok(())
 }

@@ -1,32 +1,20 @@
--- That one byte more keeps the invariant, and that it decides the answer in the end.
-use Rattle.std.proofs.Common.{◌≡◌, ℕ, ◌<◌, length, get_or, ap, ◌∙◌, arith, below_more, eq-eqb, eqb-true}
-use lib.Bits.{bit_or, bit_xor, xor_self, or_zero_l}
-use Rattle.std.proofs.lemmas.List.{ext_get_or}
-use Rattle.digest.proofs.Masks.{or_zero, xor_zero}
+-- That no bit is set exactly where all bytes are equal.
+use Rattle.std.proofs.Common.{◌≡◌, sym, ap, ◌∙◌, rules, eq-eqb, eqb-true}
+use Rattle.std.specs.List.{fold, zip}
+use Rattle.std.proofs.lemmas.Iterator.{YieldsList-from_slice, YieldsList-from_zip}
+use Rattle.std.proofs.lemmas.Iterator.Consumers.{fold_from_yields_List}
+use Rattle.digest.proofs.Differing.{marked, none_marked, same_marked}
 use Rattle.digest.proofs.equal.same.Goals as goal
 
-pub loop-i-preserved : goal.loop-i-preserved
-loop-i-preserved c =
-    let x = get_or c.args.a.now c.loop-i.i 0 in
-    let y = get_or c.args.b.now c.loop-i.i 0 in (
-      λ none.
-          let parts = or_zero c.loop-i.differs (bit_xor x y) none in
-          below_more (λ k. get_or c.args.a.now k 0 ≡ get_or c.args.b.now k 0) c.loop-i.i
-          (c.loop-i.invariant.0 parts.0) (xor_zero x y parts.1),
-      λ same.
-          ap (λ d. bit_or d (bit_xor x y)) (c.loop-i.invariant.1 same)
-          ∙ or_zero_l (bit_xor x y)
-          ∙ ap (λ l. bit_xor (get_or l c.loop-i.i 0) y) same
-          ∙ xor_self y,
-    )
-
 pub returns : goal.returns
-returns c =
-    let each : c.loop-i.differs ≡ 0 → (k : ℕ) → k < length c.args.a.now → get_or c.args.a.now k 0 ≡ get_or c.args.b.now k 0
-    = λ none k h. c.loop-i.invariant.0 none k (omega arith) in
+returns g c =
+    let a = c.args.a.now in
+    let b = c.args.b.now in
+    let pairs = YieldsList-from_zip (YieldsList-from_slice a cc) (YieldsList-from_slice b cc) in
+    let value : c.fold-differs.result ≡ fold marked 0 (zip a b) = fold_from_yields_List _ marked 0 _ c.fold-differs.ensures.ran pairs (λ d p e q k. search rules) in
     record {
       decides = (
-        λ yes. ext_get_or 0 c.args.a.now c.args.b.now (omega arith) (each (eqb-true c.loop-i.differs 0 yes)),
-        λ same. eq-eqb c.loop-i.differs 0 (c.loop-i.invariant.1 same),
+        λ yes. (none_marked a b 0 (search rules) (sym value ∙ eqb-true c.fold-differs.result 0 yes)).1,
+        λ same. eq-eqb c.fold-differs.result 0 (value ∙ ap (λ l. fold marked 0 (zip l b)) same ∙ same_marked b),
       );
     }

@@ -1,18 +1,14 @@
-use Rattle.std.proofs.Common.{arith}
-use Rattle.hextext.proofs.Texts.{line_more, line_stops, line_ends}
+use Rattle.std.proofs.Common.{◌≡◌, cond, ltb, eqb, length, Some, None, ◌∙◌, rules}
+use borrow.Author.Tests.{tests}
+use Rattle.std.proofs.lemmas.Iterator.{YieldsList-from_slice}
+use Rattle.std.proofs.lemmas.Iterator.Search.{position_from_yields_List}
+use Rattle.hextext.specs.Hex.{line_length}
+use Rattle.hextext.proofs.Texts.{first_end}
 use Rattle.hextext.proofs.hex.line_length.Goals as goal
 
-pub loop-i-preserved : goal.loop-i-preserved
-loop-i-preserved c = let more = line_more c.args.text.now c.loop-i.i c.loop-i-test.true c.if-c-eq10.false in let so_far = c.loop-i.invariant in omega arith
-
-pub returns-then-c-eq10 : goal.returns-then-c-eq10
-returns-then-c-eq10 c =
-    let stops = line_stops c.args.text.now c.loop-i.i c.loop-i-test.true c.if-c-eq10.true in
-    let so_far = c.loop-i.invariant in
-    record { value = omega arith; within = omega arith }
-
-pub returns : goal.returns
-returns c =
-    let ends = line_ends c.args.text.now c.loop-i.i c.loop-i-test.false in
-    let so_far = c.loop-i.invariant in
-    record { value = omega arith; within = omega arith }
+pub returns-clause-value : goal.returns-clause-value
+returns-clause-value c =
+    let text = c.args.text.now in
+    let place : c.position.result ≡ cond (ltb (line_length text) (length text)) (Some (line_length text)) None
+    = position_from_yields_List (λ x. eqb x 10) _ _ c.position.result c.position.ensures.ran (YieldsList-from_slice text cc) (λ x b q k. search (rules, tests)) in
+    c.unwrap_or.ensures ∙ first_end text c.position.result place

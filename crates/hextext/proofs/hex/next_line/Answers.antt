@@ -1,11 +1,7 @@
 use Rattle.std.proofs.Common.{length, take, drop, sym, ap, ◌∙◌, arith, rules}
-use Rattle.std.proofs.lemmas.List.{nil_from_length}
-use Rattle.std.proofs.lemmas.Bool.{eqb-true, eqb-false}
+use Rattle.std.proofs.lemmas.Bool.{eqb-false}
 use Rattle.hextext.proofs.Texts.{next_is, after_none, after_end}
 use Rattle.hextext.proofs.hex.next_line.Goals as goal
-
-pub returns-then-is_empty : goal.returns-then-is_empty
-returns-then-is_empty c = record { cases = nil_from_length c.args.text.now (eqb-true (length c.args.text.now) 0 (sym c.if-is_empty.ensures)) }
 
 pub returns-in-empty : goal.returns-in-empty
 returns-in-empty c =

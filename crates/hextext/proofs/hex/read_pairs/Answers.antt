@@ -1,26 +1,25 @@
-use Rattle.std.proofs.Common.{◌≡◌, ◌+◌, ◌*◌, ◌/◌, ◌++◌, length, get_or, drop, sym, ap, ◌∙◌, arith}
+use Rattle.std.proofs.Common.{◌≡◌, ◌/◌, ◌++◌, length, drop, ap, ◌∙◌, refl, arith}
 use Rattle.std.proofs.lemmas.List.{take_all}
-use Rattle.hextext.specs.Hex.{digit_of, pairs}
-use Rattle.hextext.proofs.Texts.{length_pairs, pair_at, pair_below, one_more}
+use Rattle.hextext.specs.Hex.{pairs}
+use Rattle.hextext.proofs.Texts.{length_pairs, one_more, pair_read}
 use Rattle.hextext.proofs.hex.read_pairs.Goals as goal
 
 pub overflow_mul-out : goal.overflow_mul-out
 overflow_mul-out c =
-    let below = pair_below c.args.text.now c.loop-i.i c.requires.digits (omega arith) in
-    omega (arith, c.digit.ensures.value)
+    let read = pair_read c.as_chunks.result.0.now c.args.text.now c.loop-i.i c.digit.result _ c.requires.digits c.as_chunks.ensures.front (omega arith) c.digit.ensures.value refl in
+    omega (arith, read.0)
 
 pub overflow_add-out : goal.overflow_add-out
 overflow_add-out c =
-    let below = pair_below c.args.text.now c.loop-i.i c.requires.digits (omega arith) in
-    omega (arith, c.digit.ensures.value, c.digit-in-loop-i.ensures.value)
+    let read = pair_read c.as_chunks.result.0.now c.args.text.now c.loop-i.i _ _ c.requires.digits c.as_chunks.ensures.front (omega arith) c.digit.ensures.value c.digit-in-loop-i.ensures.value in
+    omega (arith, read.0, read.1)
 
 pub loop-i-preserved : goal.loop-i-preserved
 loop-i-preserved c =
     let text = c.args.text.now in
     let long = length_pairs text in
-    let here = pair_at text c.loop-i.i (omega arith) in
-    one_more (pairs text) c.args.out.now c.loop-i.out c.loop-i.i _ (omega arith) (omega arith) c.loop-i.invariant
-    (ap (λ d. 16 * d + c.digit-in-loop-i.result) c.digit.ensures.value ∙ ap (λ d. 16 * digit_of (get_or text (2 * c.loop-i.i) 0) + d) c.digit-in-loop-i.ensures.value ∙ sym here)
+    let read = pair_read c.as_chunks.result.0.now text c.loop-i.i _ _ c.requires.digits c.as_chunks.ensures.front (omega arith) c.digit.ensures.value c.digit-in-loop-i.ensures.value in
+    one_more (pairs text) c.args.out.now c.loop-i.out c.loop-i.i _ (omega arith) (omega arith) c.loop-i.invariant read.2
 
 pub returns : goal.returns
 returns c =

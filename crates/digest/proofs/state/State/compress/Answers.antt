@@ -1,19 +1,17 @@
--- That one round more keeps the invariant, and that after all of them the state is that of the definition.
-use Rattle.std.proofs.Common.{◌≡◌, ◌+◌, length, drop, sym, ap, ◌∙◌, rules}
-use Rattle.digest.specs.Sha256.{constants, compressed, rounds}
-use Rattle.digest.proofs.Rounds.{rounds_more, rounds_all}
+-- That a round for each constant and word, and the sum, give the state of the definition.
+use Rattle.std.proofs.Common.{◌≡◌, rules}
+use Rattle.std.specs.List.{fold, zip}
+use Rattle.std.proofs.lemmas.Iterator.{YieldsList-from_slice, YieldsList-from_zip}
+use Rattle.std.proofs.lemmas.Iterator.Consumers.{fold_from_yields_List}
+use Rattle.digest.specs.Sha256.{compressed, constants}
+use Rattle.digest.proofs.Rounds.{round_at, rounds_fold}
 use Rattle.digest.proofs.state.State.compress.Goals as goal
 
-pub loop-t-preserved : goal.loop-t-preserved
-unfolding constants
-loop-t-preserved c =
-    let long : length c.schedule-w.result ≡ 64 = search rules in
-    let step = rounds_more c.loop-t.working c.schedule-w.result c.loop-t.t long c.loop-t-test.true in
-    ap (λ s. rounds s (drop (c.loop-t.t + 1) constants) (drop (c.loop-t.t + 1) c.schedule-w.result)) c.round-working.ensures ∙ sym step ∙ c.loop-t.invariant
-
 pub returns : goal.returns
-unfolding compressed
+unfolding compressed constants
 returns c =
-    let all = rounds_all c.loop-t.working c.schedule-w.result c.loop-t.t c.loop-t-test.false in
-    let inv : rounds c.loop-t.working (drop c.loop-t.t constants) (drop c.loop-t.t c.schedule-w.result) ≡ rounds c.args.self constants c.schedule-w.result = c.loop-t.invariant in
+    let words = c.schedule-words.result in
+    let pairs = YieldsList-from_zip (YieldsList-from_slice constants cc) (YieldsList-from_slice words cc) in
+    let value : c.fold-working.result ≡ fold round_at c.args.self (zip constants words) = fold_from_yields_List _ round_at c.args.self _ c.fold-working.ensures.ran pairs (λ s p t q k. search rules) in
+    let all = rounds_fold c.args.self constants words in
     cc

@@ -1,8 +1,0 @@
--- The bytes of the words so far stand at the front.
-use Rattle.std.proofs.Common.{◌≡◌, ◌*◌, length, take}
-use Rattle.std.specs.List.{flat_map}
-use Rattle.digest.specs.Sha256.{be32}
-use Rattle.digest.proofs.state.State.to_bytes.Given as goal
-
-abbrev pub invariant-loop-i : goal.invariant-loop-i
-invariant-loop-i l = (length l.out ≡ 32) × (take (4 * l.i) l.out ≡ flat_map be32 (take l.i l.words))
