@@ -5,7 +5,7 @@ use Rattle.std.proofs.lemmas.List.{get_or_append_left, get_or-append_right, get_
 use Rattle.std.proofs.ByRecursion.{All-get_or, All-from_get_or}
 use Rattle.std.proofs.lemmas.Bool.{cases_lt, cases_eq}
 use Rattle.span.specs.World.{Event}
-use Rattle.choice.specs.declared.row.Claim.{Claim}
+use Rattle.choice.specs.declared.case.Claim.{Claim}
 use Rattle.trail.specs.declared.Moment.{Moment}
 use Rattle.window.specs.Ring.{claimed, nothing}
 use Rattle.requests.specs.declared.request.Request.{Request}

@@ -9,21 +9,22 @@ use Rattle.span.specs.Span.{ceiling}
 use Rattle.span.specs.World.{Event, Rules, how_many, World, begins, Shows, Marks, Asks, Accepts}
 use Rattle.span.specs.Model.{put, moments, lowest}
 use Rattle.span.specs.Model as model
-use Rattle.choice.specs.declared.row.Claim.TheVariants.{AtMost, AtLeast}
+use Rattle.choice.specs.declared.case.Claim.TheVariants.{AtMost, AtLeast}
 use Rattle.choice.specs.declared.runs.Run.{Run}
 use Rattle.choice.specs.Row.{any_span, has_times}
 use Rattle.choice.specs.Stands as choice
-use Rattle.choice.proofs.Standing.{left_row}
+use Rattle.choice.proofs.Standing.{left_row, stands_by}
 use Rattle.window.specs.View.{View}
 use Rattle.window.specs.Stands.{Parts, from_ceiling}
 use Rattle.window.specs.Steps as window
 use Rattle.window.proofs.Stays.{stays_anew}
 use Rattle.requests.specs.declared.request.Over.TheVariants.{Age, Far}
-use Rattle.requests.specs.declared.request.Standing.{Standing}
-use Rattle.requests.specs.declared.request.Standing.TheVariants.{Unknown, Late, Pending}
+use Rattle.requests.specs.declared.request.Unfit.{Unfit}
 use Rattle.requests.specs.Request.{over, alike, reach_of, no_request}
 use Rattle.requests.specs.Book.{oldest_like, standing_of}
-use Rattle.requests.proofs.Firsts.{first_true, first_le, like_self}
+use Rattle.std.proofs.lemmas.List.Sums.{passes_at_first}
+use Rattle.requests.proofs.Firsts.{first_le, like_self}
+use Rattle.wire.specs.declared.input.Reading.{Reading}
 use Rattle.wire.specs.declared.refusal.Refusal.{Refusal}
 use Rattle.wire.specs.declared.refusal.Refusal.TheVariants.{OutOfRange}
 use Rattle.window.specs.Ring.{claimed, nothing}
@@ -53,8 +54,8 @@ empty_world r = record {
 }
 
 -- the spans now are those of the run
-pub row_stands : (r : Rules) (es : List Event) (w : View) → Parts r (moments es) w → choice.Stands r es w.choices w.here
-row_stands r es w p = record { choices = p.choices; spans = p.here }
+pub row_stands : (r : Rules) (es : List Event) (w : View) → Parts r (moments es) w → choice.Stands r es w.here
+row_stands r es w p = stands_by r es p.choices w.here p.full p.here
 
 -- a run that begins anew
 anew_stands : (r : Rules) (es : List Event) (begun : ℕ) (s t : State) (us : List Run) → Holds r es (moments es) begun s.window s.book.pending s.last → r.servers ≡ s.servers → t ≡ restarted s → Said t.window.here us → Stands (from_ceiling r) [] t us
@@ -102,7 +103,7 @@ fresh_stands r s us n p k b l said = record {
 pub follows : (r : Rules) (es : List Event) (begun : ℕ) (s t : State) (us : List Run) (lost : Bool) → Holds r es (moments es) begun s.window s.book.pending s.last → r.servers ≡ s.servers → lost ≡ is_lost s → t ≡ finished s → Said t.window.here us → Follows r es lost t us
 follows r es begun s t us lost h n l e said = go (is_lost s) refl where
   exact : (any_span has_times s.window.here ≡ true → (u : ℕ) × World r es u) × (any_span has_times s.window.here ≡ false → (u : ℕ) → World r es u → ⊥)
-  exact = left_row r es s.window.choices s.window.here (row_stands r es s.window h.window)
+  exact = left_row r es s.window.here (row_stands r es s.window h.window)
 
   go : (b : Bool) → is_lost s ≡ b → Follows r es lost t us
   go true f = subst (λ x. Follows r es x t us) (sym (l ∙ f)) (exact.1 (not-true _ f), anew_stands r es begun s t us h n (e ∙ ap (λ b. cond b (restarted s) s) f) said)
@@ -113,26 +114,25 @@ follows r es begun s t us lost h n l e said = go (is_lost s) refl where
       (subst (λ x. Said x.window.here us → Stands r es x us) (sym is) (λ k. record { begun = begun; servers = n; holds = h; says = k; present = world.0; lives = world.1 }) said)
 
 -- a reply that is not refused is for a pending request
-pub standing_pending : (x : Standing) → by_standing x ≡ None → x ≡ Pending (place_of x)
-standing_pending Unknown e = absurd (let z : ◌≡◌ {A = ℕ} 0 1 = cc in omega arith)
-standing_pending Late e = absurd (let z : ◌≡◌ {A = ℕ} 0 1 = cc in omega arith)
-standing_pending (Pending p) e = refl
+pub standing_pending : (x : Result ℕ Unfit) → by_standing x ≡ None → x ≡ Ok (place_of x)
+standing_pending (Err e) h = absurd (let z : ◌≡◌ {A = ℕ} 0 1 = cc in omega arith)
+standing_pending (Ok p) h = refl
 
-pub reply_taken : (v : ℕ) (nonce : List ℕ) (m d : ℕ) (s : State) → reply_refusal v nonce m d s ≡ None → (in_range v m d s ≡ true) × (standing_of v nonce s.book ≡ Pending (answering v nonce s))
-reply_taken v nonce m d s e = go (in_range v m d s) refl e where
-  go : (b : Bool) → in_range v m d s ≡ b → cond b (by_standing (standing_of v nonce s.book)) (Some OutOfRange) ≡ None → (in_range v m d s ≡ true) × (standing_of v nonce s.book ≡ Pending (answering v nonce s))
-  go true f e = (f, standing_pending (standing_of v nonce s.book) e)
+pub reply_taken : (q : Reading) (s : State) → reply_refusal q s ≡ None → (in_range q s ≡ true) × (standing_of q.server q.nonce s.book ≡ Ok (answering q s))
+reply_taken q s e = go (in_range q s) refl e where
+  go : (b : Bool) → in_range q s ≡ b → cond b (by_standing (standing_of q.server q.nonce s.book)) (Some OutOfRange) ≡ None → (in_range q s ≡ true) × (standing_of q.server q.nonce s.book ≡ Ok (answering q s))
+  go true f e = (f, standing_pending (standing_of q.server q.nonce s.book) e)
   go false f e = absurd (let z : ◌≡◌ {A = ℕ} 0 1 = cc in omega arith)
 
 -- the request that it is taken for is one of this server
-pub taken_server : (v : ℕ) (nonce : List ℕ) (s : State) (i : ℕ) → standing_of v nonce s.book ≡ Pending i → (oldest_like i s.book.pending < length s.book.pending) × ((taken_for i s).server ≡ v)
+pub taken_server : (v : ℕ) (nonce : List ℕ) (s : State) (i : ℕ) → standing_of v nonce s.book ≡ Ok i → (oldest_like i s.book.pending < length s.book.pending) × ((taken_for i s).server ≡ v)
 taken_server v nonce s i e =
     let ps = s.book.pending in
     let at = standing_at v nonce s.book i e in
     let q = get_or ps i no_request in
     let le = first_le (alike q) no_request ps i (like_self q at.1) in
     let there : oldest_like i ps < length ps = omega (arith, at.0) in
-    let like = first_true (alike q) no_request ps there in
+    let like = passes_at_first (alike q) ps no_request there in
     (there, eqb-true _ _ (and_parts _ _ (and_parts _ _ like).0).0 ∙ eqb-true _ _ (and_parts _ _ at.2).0)
 
 -- the ticks before a moment, and those since
@@ -205,25 +205,29 @@ module _ (s : State) (rs : List Run) (reach : reach_of s.book.pending ≤ s.wind
   marks_on (Err e) t us c = (c.state, c.runs)
 
   -- a reply is accepted
-  pub accepts_on : (v : ℕ) (nonce : List ℕ) (m d : ℕ) (o : Result Heard Refusal) (t : State) (us : List Run) → calls.Accepts v nonce m d s rs o t us → AcceptsOn v s rs o t us
-  accepts_on v nonce m d (Ok x) t us c = λ r es h.
+  pub accepts_on : (a : Reading) (o : Result Heard Refusal) (t : State) (us : List Run) → calls.Accepts a s rs o t us → AcceptsOn a.server s rs o t us
+  accepts_on a (Ok x) t us c = λ r es h.
+      let v = a.server in
+      let nonce = a.nonce in
+      let m = a.midpoint in
+      let d = a.radius in
       let ps = s.book.pending in
-      let i = answering v nonce s in
-      let stands = (reply_taken v nonce m d s c.none).1 in
+      let i = answering a s in
+      let stands = (reply_taken a s c.none).1 in
       let at = standing_at v nonce s.book i stands in
       let taken = taken_server v nonce s i stands in
       let q = taken_for i s in
       let here = All-get_or (Awaits h.begun es s.window.kept) ps (oldest_like i ps) no_request taken.0 h.holds.awaits in
       let asked : (event_at es q.since).deed ≡ Asks v = here.asked ∙ ap Asks taken.1 in
-      let a = replied i v (m + d) s in
-      let z = nearer a in
+      let b = replied i v (m + d) s in
+      let z = nearer b in
       let one = goes_replied r es (moments es) h.begun s.window s.book s.last h.holds i v (m + d) at.0 taken.0 reach long in
-      let two = holds_kept r es (put q.since v (m + d) (moments es)) h.begun a.window a.book.pending s.last one (λ y. not (over Far y)) in
-      let few = reach_kept (λ y. not (over Far y)) a.book.pending in
+      let two = holds_kept r es (put q.since v (m + d) (moments es)) h.begun b.window b.book.pending s.last one (λ y. not (over Far y)) in
+      let few = reach_kept (λ y. not (over Far y)) b.book.pending in
       let less = reach_answered i s.book in
       let same = length-set s.window.kept (window.place_of s.window q.since) (claimed (AtMost v (m + d)) (get_or s.window.kept (window.place_of s.window q.since) nothing)) in
       let e = happens (s.count - s.last) (Accepts v q.since (m - d) (m + d)) in
-      let on = goes_on r es (put q.since v (m + d) (moments es)) h.begun a.window z.book.pending s.last two e (moment_now false (Some (AtLeast v (m - d))) z) s.count order refl refl refl (here.there, asked) (omega arith) (omega arith) (reach_near a.book.pending) in
+      let on = goes_on r es (put q.since v (m + d) (moments es)) h.begun b.window z.book.pending s.last two e (moment_now false (Some (AtLeast v (m - d))) z) s.count order refl refl refl (here.there, asked) (omega arith) (omega arith) (reach_near b.book.pending) in
       let run = subst (λ ms. Holds r (e ∷ es) ms h.begun (accepted_by i v (m - d) (m + d) s).window (accepted_by i v (m - d) (m + d) s).book.pending s.count) (reply_moments (s.count - s.last) v q.since (m - d) (m + d) es (omega arith)) on in
       let all = follows r (e ∷ es) h.begun (accepted_by i v (m - d) (m + d) s) t us x.made.lost run h.servers c.makes.lost c.makes.state c.makes.says in
       record {
@@ -236,4 +240,4 @@ module _ (s : State) (rs : List Run) (reach : reach_of s.book.pending ≤ s.wind
             (subst (λ n. Follows r (happens (s.count - s.last) (Accepts v q.since n x.greatest) ∷ es) x.made.lost t us) (sym c.least)
             (subst (λ n. Follows r (happens (s.count - s.last) (Accepts v q.since (m - d) n) ∷ es) x.made.lost t us) (sym c.greatest) all));
       }
-  accepts_on v nonce m d (Err e) t us c = (c.state, c.runs)
+  accepts_on a (Err e) t us c = (c.state, c.runs)

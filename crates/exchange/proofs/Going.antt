@@ -7,7 +7,7 @@ use Rattle.std.proofs.lemmas.Bool.{cases_eq, eqb-true}
 use Rattle.span.specs.World.{Event, Rules, Asks}
 use Rattle.span.specs.Model as model
 use Rattle.span.specs.Model.{put, moments}
-use Rattle.choice.specs.declared.row.Claim.TheVariants.{AtMost}
+use Rattle.choice.specs.declared.case.Claim.TheVariants.{AtMost}
 use Rattle.trail.specs.declared.Moment.{Moment}
 use Rattle.trail.specs.Trail.{moment_of}
 use Rattle.window.specs.Ring.{claimed, nothing}

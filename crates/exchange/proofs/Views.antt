@@ -1,17 +1,23 @@
--- What the steps of a window leave of its mark and its choices, and those of requests of their reach.
-use Rattle.std.proofs.Common.{◌≡◌, ℕ, ◌+◌, ◌^◌, ◌<◌, ◌≤◌, max, Bool, true, false, cond, not, eqb, ltb, leb, List, [], ◌∷◌, length, get_or, set, filter, sym, refl, subst, ⊎_elim, arith, length-take}
+-- What the steps of a window leave of its mark and of its spans now, and those of requests of their reach.
+use Rattle.std.proofs.Common.{◌≡◌, ℕ, ◌+◌, ◌^◌, ◌<◌, ◌≤◌, max, Bool, true, false, cond, not, eqb, ltb, leb, List, [], ◌∷◌, length, get_or, set, filter, Ok, Err, Result, sym, refl, ◌∙◌, subst, ⊎_elim, arith}
 use Rattle.std.proofs.lemmas.Bool.{eqb-true, eqb-false, leb-false, ltb-true, and_cases, cases_lt}
+use Rattle.choice.specs.declared.case.Case.{Case}
+use Rattle.choice.specs.Row.{over_row, respan}
+use Rattle.trail.specs.declared.Moment.{Moment}
+use Rattle.trail.specs.Trail.{stepped, walked}
 use Rattle.window.specs.View.{View}
 use Rattle.window.specs.Steps.{marked_here, marked_on, settled, forgot, aged, is_full, roomy}
 use Rattle.requests.specs.declared.request.Request.{Request}
 use Rattle.requests.specs.declared.request.Over.TheVariants.{Far, Any}
-use Rattle.requests.specs.declared.request.Standing.TheVariants.{Unknown, Late, Pending}
-use Rattle.requests.specs.Request.{over, is_for, first_of, reach_of, no_request, renonced}
-use Rattle.requests.proofs.Firsts.{first_true}
-use Rattle.requests.proofs.Known.{reach_removed, reach_renonced}
+use Rattle.requests.specs.declared.request.Unfit.{Unfit}
+use Rattle.requests.specs.declared.request.Unfit.TheVariants.{Unknown, Late}
+use Rattle.requests.specs.Request.{over, is_for, reach_of, no_request, renonced}
+use Rattle.std.specs.List.{list_any, position_or_len}
+use Rattle.std.proofs.lemmas.List.{length-map}
+use Rattle.std.proofs.lemmas.List.Sums.{passes_at_first}
+use Rattle.requests.proofs.Reach.{reach_removed, reach_renonced}
 use Rattle.requests.specs.Book as book
-use Rattle.requests.specs.declared.pending.Pending as pending
-use Rattle.requests.specs.Pending.{waiting_in}
+use Rattle.wire.specs.declared.input.Reading.{Reading}
 use Rattle.span.specs.Span.{ceiling}
 use Rattle.std.proofs.lemmas.Bool.Decides.{nat_tests}
 use Rattle.exchange.specs.State.{State}
@@ -23,9 +29,9 @@ settled_lag k v = go (eqb k 0) refl where
   go true e = sym (eqb-true k 0 e)
   go false e = refl
 
-pub settled_choices : (k : ℕ) (v : View) → (settled k v).choices ≡ v.choices
-settled_choices k v = go (eqb k 0) where
-  go : (b : Bool) → (cond b (marked_here v) (marked_on k v)).choices ≡ v.choices
+pub settled_here : (k : ℕ) (v : View) → (settled k v).here ≡ v.here
+settled_here k v = go (eqb k 0) where
+  go : (b : Bool) → (cond b (marked_here v) (marked_on k v)).here ≡ v.here
   go true = refl
   go false = refl
 
@@ -41,9 +47,9 @@ roomy_lag count v = go (is_full (aged count v)) where
   go true = refl
   go false = refl
 
-pub roomy_choices : (count : ℕ) (v : View) → (roomy count v).choices ≡ v.choices
-roomy_choices count v = go (is_full (aged count v)) where
-  go : (b : Bool) → (cond b (forgot 1 (aged count v)) (aged count v)).choices ≡ v.choices
+pub roomy_here : (count : ℕ) (v : View) → (roomy count v).here ≡ v.here
+roomy_here count v = go (is_full (aged count v)) where
+  go : (b : Bool) → (cond b (forgot 1 (aged count v)) (aged count v)).here ≡ v.here
   go true = refl
   go false = refl
 
@@ -108,28 +114,31 @@ reach_answered i b =
 abbrev pub StandsAt : ℕ → List ℕ → book.Book → ℕ → Type 0
 StandsAt server nonce b p = (p < length b.pending) × ((get_or b.pending p no_request).since < 64) × (is_for server nonce (get_or b.pending p no_request) ≡ true)
 
-stands_near : (server : ℕ) (nonce : List ℕ) (b : book.Book) (p f : ℕ) (c : Bool) → ltb (get_or b.pending f no_request).since 64 ≡ c → f < length b.pending → is_for server nonce (get_or b.pending f no_request) ≡ true → cond c (Pending f) Late ≡ Pending p → StandsAt server nonce b p
+stands_near : (server : ℕ) (nonce : List ℕ) (b : book.Book) (p f : ℕ) (c : Bool) → ltb (get_or b.pending f no_request).since 64 ≡ c → f < length b.pending → is_for server nonce (get_or b.pending f no_request) ≡ true → cond c (Ok f) (Err Late) ≡ Ok p → StandsAt server nonce b p
 stands_near server nonce b p f true h l t e =
     let same : f ≡ p = cc in
     (subst (λ x. x < length b.pending) same l, subst (λ x. (get_or b.pending x no_request).since < 64) same (ltb-true _ 64 h), subst (λ x. is_for server nonce (get_or b.pending x no_request) ≡ true) same t)
 stands_near server nonce b p f false h l t e = absurd (let z : ◌≡◌ {A = ℕ} 0 1 = cc in omega arith)
 
-stands_none : (c : Bool) (p : ℕ) → cond c Late Unknown ≡ Pending p → ⊥
+stands_none : (c : Bool) (p : ℕ) → ◌≡◌ {A = Result ℕ Unfit} (cond c (Err Late) (Err Unknown)) (Ok p) → ⊥
 stands_none true p e = let z : ◌≡◌ {A = ℕ} 0 1 = cc in omega arith
 stands_none false p e = let z : ◌≡◌ {A = ℕ} 0 1 = cc in omega arith
 
-stands_first : (server : ℕ) (nonce : List ℕ) (b : book.Book) (p f : ℕ) (c : Bool) → ltb f (length b.pending) ≡ c → (f < length b.pending → is_for server nonce (get_or b.pending f no_request) ≡ true) → cond c (book.pending_at f b.pending) (cond (book.knows server nonce b.closed) Late Unknown) ≡ Pending p → StandsAt server nonce b p
+stands_first : (server : ℕ) (nonce : List ℕ) (b : book.Book) (p f : ℕ) (c : Bool) → ltb f (length b.pending) ≡ c → (f < length b.pending → is_for server nonce (get_or b.pending f no_request) ≡ true) → cond c (book.pending_at f b.pending) (cond (list_any (is_for server nonce) b.closed) (Err Late) (Err Unknown)) ≡ Ok p → StandsAt server nonce b p
 stands_first server nonce b p f true h t e = let l = ltb-true f (length b.pending) h in stands_near server nonce b p f (ltb (get_or b.pending f no_request).since 64) refl l (t l) e
-stands_first server nonce b p f false h t e = absurd (stands_none (book.knows server nonce b.closed) p e)
+stands_first server nonce b p f false h t e = absurd (stands_none (list_any (is_for server nonce) b.closed) p e)
 
-pub standing_at : (server : ℕ) (nonce : List ℕ) (b : book.Book) (p : ℕ) → book.standing_of server nonce b ≡ Pending p → StandsAt server nonce b p
+pub standing_at : (server : ℕ) (nonce : List ℕ) (b : book.Book) (p : ℕ) → book.standing_of server nonce b ≡ Ok p → StandsAt server nonce b p
 standing_at server nonce b p e =
-    let f = first_of (is_for server nonce) b.pending in
-    stands_first server nonce b p f (ltb f (length b.pending)) refl (first_true (is_for server nonce) no_request b.pending) e
-
-pub pending_few : (p : pending.Pending) → length (waiting_in p) ≤ 16
-pending_few p = omega (arith, length-take p.many p.items, p.within)
+    let f = position_or_len (is_for server nonce) b.pending in
+    stands_first server nonce b p f (ltb f (length b.pending)) refl (passes_at_first (is_for server nonce) b.pending no_request) e
 
 -- a reply in range
-pub in_range_lem : (server midpoint radius : ℕ) (s : State) → in_range server midpoint radius s ≡ true → (server < s.servers) × (midpoint ≤ ceiling) × (radius ≤ 2 ^ 31)
-in_range_lem server midpoint radius s e = (grind (arith, nat_tests), grind (arith, nat_tests), grind (arith, nat_tests))
+pub in_range_lem : (q : Reading) (s : State) → in_range q s ≡ true → (q.server < s.servers) × (q.midpoint ≤ ceiling) × (q.radius ≤ 2 ^ 31)
+in_range_lem q s e = (grind (arith, nat_tests), grind (arith, nat_tests), grind (arith, nat_tests))
+
+-- a walk through moments leaves as many cases
+pub length_walked : (d : ℕ) (w : List Moment) (row : List Case) → length (walked d w row) ≡ length row
+unfolding walked
+length_walked d [] row = refl
+length_walked d (m ∷ w) row = length_walked d w (over_row (stepped d m) row) ∙ length-map row (respan (stepped d m))

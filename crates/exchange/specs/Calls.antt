@@ -4,6 +4,7 @@ use Rattle.choice.specs.declared.runs.Run.{Run}
 use Rattle.choice.specs.Choice.{chosen}
 use Rattle.window.specs.Steps.{begun}
 use Rattle.requests.specs.Book.{standing_of, no_book}
+use Rattle.wire.specs.declared.input.Reading.{Reading}
 use Rattle.wire.specs.declared.refusal.Refusal.{Refusal}
 use Rattle.exchange.specs.declared.made.Made.{Made}
 use Rattle.exchange.specs.declared.made.Heard.{Heard}
@@ -70,16 +71,16 @@ Marks s rs (Ok m) t us = MarksNow s m t us
 Marks s rs (Err e) t us = Refuses (mark_refusal s) e s rs t us
 
 -- the place of the request that a reply answers
-abbrev pub answering : ℕ → List ℕ → State → ℕ
-answering server nonce s = place_of (standing_of server nonce s.book)
+abbrev pub answering : Reading → State → ℕ
+answering q s = place_of (standing_of q.server q.nonce s.book)
 
-pub record AcceptsNow (server : ℕ) (nonce : List ℕ) (midpoint radius : ℕ) (s : State) (h : Heard) (t : State) (us : List Run) : Type 0 where
-  pub none : reply_refusal server nonce midpoint radius s ≡ None
-  pub asked : h.asked ≡ (taken_for (answering server nonce s) s).count
-  pub least : h.least ≡ midpoint - radius
-  pub greatest : h.greatest ≡ midpoint + radius
-  pub makes : Makes (nearer (replied (answering server nonce s) server (midpoint + radius) s)) (accepted_by (answering server nonce s) server (midpoint - radius) (midpoint + radius) s) h.made t us
+pub record AcceptsNow (q : Reading) (s : State) (h : Heard) (t : State) (us : List Run) : Type 0 where
+  pub none : reply_refusal q s ≡ None
+  pub asked : h.asked ≡ (taken_for (answering q s) s).count
+  pub least : h.least ≡ q.midpoint - q.radius
+  pub greatest : h.greatest ≡ q.midpoint + q.radius
+  pub makes : Makes (nearer (replied (answering q s) q.server (q.midpoint + q.radius) s)) (accepted_by (answering q s) q.server (q.midpoint - q.radius) (q.midpoint + q.radius) s) h.made t us
 
-abbrev pub Accepts : ℕ → List ℕ → ℕ → ℕ → State → List Run → Result Heard Refusal → State → List Run → Type 0
-Accepts server nonce midpoint radius s rs (Ok h) t us = AcceptsNow server nonce midpoint radius s h t us
-Accepts server nonce midpoint radius s rs (Err e) t us = Refuses (reply_refusal server nonce midpoint radius s) e s rs t us
+abbrev pub Accepts : Reading → State → List Run → Result Heard Refusal → State → List Run → Type 0
+Accepts q s rs (Ok h) t us = AcceptsNow q s h t us
+Accepts q s rs (Err e) t us = Refuses (reply_refusal q s) e s rs t us

@@ -1,12 +1,11 @@
 -- What is said of a past event: the least and the greatest time that some world of the run has at its moment.
-use Rattle.std.specs.Prelude.{◌≡◌, ℕ, ◌+◌, ◌-◌, ◌<◌, ◌≤◌, List, length, take, Some, None, Ok, Err, Result}
+use Rattle.std.specs.Prelude.{◌≡◌, ℕ, ◌+◌, ◌-◌, ◌<◌, ◌≤◌, List, length, position, take, Some, None, Ok, Err, Result}
 use Rattle.span.specs.World.{Event, Rules, Marks}
 use Rattle.choice.specs.declared.runs.Run.{Run}
 use Rattle.choice.specs.Past.{WorldAt}
 use Rattle.past.specs.Event.{LeastAndGreatest, SaidNeverWidens}
 use Rattle.wire.specs.declared.refusal.Refusal.{Refusal}
 use Rattle.exchange.specs.State.{State}
-use Rattle.requests.specs.Book.{place_in}
 use Rattle.exchange.specs.Steps.{an_hour, is_this}
 use Rattle.exchange.specs.Stands.{event_at, ticks_of, Stands}
 
@@ -22,7 +21,7 @@ pub record EventIs (event : ℕ) (s : State) (b : ℕ × ℕ) (r : Rules) (es : 
 -- Of every run that an exchange stands for; nothing is refused but an event that is not kept.
 abbrev pub EventWorlds : ℕ → State → List Run → Result (ℕ × ℕ) Refusal → Type 0
 EventWorlds event s rs (Ok b) = (r : Rules) (es : List Event) → Stands r es s rs → EventIs event s b r es
-EventWorlds event s rs (Err e) = (r : Rules) (es : List Event) → Stands r es s rs → place_in (is_this event s.count) s.window.kept ≡ None
+EventWorlds event s rs (Err e) = (r : Rules) (es : List Event) → Stands r es s rs → position (is_this event s.count) s.window.kept ≡ None
 
 -- with one event more, what is said of a past moment is within what was said of it before
 abbrev pub NeverWidens : Type 0

@@ -5,6 +5,7 @@ use Rattle.span.specs.Span.{is_in}
 use Rattle.span.specs.World.{Deed, Event, Rules, World, Shows, Marks, Asks, Accepts}
 use Rattle.span.specs.Model.{moments}
 use Rattle.span.specs.Model as model
+use Rattle.choice.specs.declared.case.Case.{Case}
 use Rattle.choice.specs.declared.runs.Run.{Run}
 use Rattle.choice.specs.Choice.{bit}
 use Rattle.choice.specs.Promise.{FaultyInAll, NoWorld}
@@ -21,7 +22,7 @@ use Rattle.exchange.specs.declared.made.Heard.{Heard}
 use Rattle.exchange.specs.State.{State}
 
 -- the runs are in increasing order and apart, and hold just the times of the spans of a row
-pub record Said (row : List ℕ) (runs : List Run) : Type 0 where
+pub record Said (row : List Case) (runs : List Run) : Type 0 where
   pub apart : Apart 0 runs
   pub same : (t : ℕ) → in_runs t runs ≡ any_span (is_in t) row
 

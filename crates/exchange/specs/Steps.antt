@@ -1,19 +1,20 @@
 -- What each call makes of the state, and when it is refused.
-use Rattle.std.specs.Prelude.{ℕ, ◌-◌, ◌^◌, Bool, true, false, cond, not, ◌&&◌, List, length, Some, None, filter, Option, ◌==◌, nat_le, nat_lt, slice_index_or}
+use Rattle.std.specs.Prelude.{ℕ, ◌-◌, ◌^◌, Bool, true, false, cond, not, ◌&&◌, List, length, Some, None, Ok, Err, filter, position, Option, Result, ◌==◌, nat_le, nat_lt, slice_index_or}
 use Rattle.span.specs.Span.{ceiling}
-use Rattle.choice.specs.declared.row.Claim.{Claim}
-use Rattle.choice.specs.declared.row.Claim.TheVariants.{AtMost, AtLeast}
+use Rattle.choice.specs.declared.case.Claim.{Claim}
+use Rattle.choice.specs.declared.case.Claim.TheVariants.{AtMost, AtLeast}
 use Rattle.choice.specs.Row.{any_span, has_times}
 use Rattle.trail.specs.declared.Moment.{Moment}
 use Rattle.window.specs.View.{View}
 use Rattle.window.specs.Steps.{made_by, settled, aged, is_full, roomy, answered, anew, said_at}
 use Rattle.requests.specs.declared.request.Request.{Request}
 use Rattle.requests.specs.declared.request.Over.TheVariants.{Age, Far, Any}
-use Rattle.requests.specs.declared.request.Standing.{Standing}
-use Rattle.requests.specs.declared.request.Standing.TheVariants.{Unknown, Late, Pending}
+use Rattle.requests.specs.declared.request.Unfit.{Unfit}
+use Rattle.requests.specs.declared.request.Unfit.TheVariants.{Unknown, Late}
 use Rattle.requests.specs.Request.{reach_of, no_request}
 use Rattle.requests.specs.Book.{Book, standing_of, closed_by, ticked, asked_for, oldest_like, answered_at}
 use Rattle.requests.specs.Book as book
+use Rattle.wire.specs.declared.input.Reading.{Reading}
 use Rattle.wire.specs.declared.refusal.Refusal.{Refusal}
 use Rattle.wire.specs.declared.refusal.Refusal.TheVariants.{OutOfRange, UnknownNonce, TooLate, ClockWentBack, Full}
 use Rattle.exchange.specs.State.{State}
@@ -123,22 +124,24 @@ abbrev pub mark_refusal : State → Option Refusal
 mark_refusal s = cond (nat_le 256 (length (events s))) (Some Full) None
 
 -- a server that isn't there, a midpoint or a radius out of range; a nonce that wasn't sent to this server or was answered; too late
-abbrev pub in_range : ℕ → ℕ → ℕ → State → Bool
-in_range server midpoint radius s = nat_lt server s.servers && nat_le midpoint ceiling && nat_le radius (2 ^ 31)
+abbrev pub in_range : Reading → State → Bool
+in_range q s = nat_lt q.server s.servers && nat_le q.midpoint ceiling && nat_le q.radius (2 ^ 31)
 
-abbrev pub by_standing : Standing → Option Refusal
-by_standing Unknown = Some UnknownNonce
-by_standing Late = Some TooLate
-by_standing (Pending place) = None
+abbrev pub refusal_for : Unfit → Refusal
+refusal_for Unknown = UnknownNonce
+refusal_for Late = TooLate
 
-abbrev pub reply_refusal : ℕ → List ℕ → ℕ → ℕ → State → Option Refusal
-reply_refusal server nonce midpoint radius s = cond (in_range server midpoint radius s) (by_standing (standing_of server nonce s.book)) (Some OutOfRange)
+abbrev pub by_standing : Result ℕ Unfit → Option Refusal
+by_standing (Ok place) = None
+by_standing (Err unfit) = Some (refusal_for unfit)
+
+abbrev pub reply_refusal : Reading → State → Option Refusal
+reply_refusal q s = cond (in_range q s) (by_standing (standing_of q.server q.nonce s.book)) (Some OutOfRange)
 
 -- the place of the pending request that has this nonce of this server
-abbrev pub place_of : Standing → ℕ
-place_of Unknown = 0
-place_of Late = 0
-place_of (Pending place) = place
+abbrev pub place_of : Result ℕ Unfit → ℕ
+place_of (Ok place) = place
+place_of (Err unfit) = 0
 
 -- the event of a count, if it is kept
 abbrev pub is_this : ℕ → ℕ → Moment → Bool
@@ -150,4 +153,4 @@ said_if None s = None
 said_if (Some place) s = said_at place s.window
 
 abbrev pub event_said : ℕ → State → Option (ℕ × ℕ)
-event_said event s = said_if (book.place_in (is_this event s.count) s.window.kept) s
+event_said event s = said_if (position (is_this event s.count) s.window.kept) s

@@ -1,25 +1,25 @@
 // What an exchange is asked to do.
-ghost use Rattle.std.specs.Prelude.{◌≡◌, ◌+◌, ◌-◌, ◌^◌, ◌<◌, ◌≤◌, true, false, [], length, IfOk, Some, None, filter, MatchResult, slice_index_or};
-ghost use Rattle.choice.specs.declared.row.Claim.TheVariants.{AtLeast};
+ghost use Rattle.std.specs.Prelude.{◌≡◌, ◌+◌, ◌-◌, ◌^◌, ◌<◌, ◌≤◌, true, false, [], length, IfOk, Ok, Some, None, filter, MatchResult, slice_index_or};
+ghost use Rattle.choice.specs.declared.case.Claim.TheVariants.{AtLeast};
 ghost use Rattle.requests.specs.Book.{Spare, standing_of};
 ghost use Rattle.requests.specs.Request.{no_request, reach_of};
-ghost use Rattle.requests.specs.declared.request.Standing.TheVariants.{Pending};
 ghost use Rattle.exchange.specs.State.{runs_of, state_of};
-ghost use Rattle.exchange.specs.Steps.{clocked, events, in_range, is_event, momented, nearer, replied, reply_refusal, taken_for, waiting};
+ghost use Rattle.exchange.specs.Steps.{clocked, events, in_range, refusal_for, is_event, momented, nearer, replied, reply_refusal, taken_for, waiting};
 ghost use Rattle.exchange.specs.Stands.{AcceptsOn, AsksOn, BeginsOn, MarksOn, ShowsOn};
 ghost use Rattle.exchange.specs.Calls.{Accepts, Asks, Begins, Makes, Marks, Shows};
 
 use crate::Exchange;
 use crate::made::{Heard, Made};
-use choice::row::Claim;
-use choice::runs::Run;
+use choice::case::Claim;
+use choice::servers::Servers;
 use requests::Requests;
-use requests::request::{Over, Standing};
+use requests::request::{Over, Unfit};
 use span::CEILING;
 use span::rate::Drift;
 use std::alloc::{AllocError, Global};
 use trail::Moment;
 use window::Window;
+use wire::input::Reading;
 use wire::refusal::Refusal;
 
 // At the beginning true time is anything up to this.
@@ -45,26 +45,32 @@ pub(crate) fn is_event(moment: &Moment, count: u64) -> bool
 fn count_events(moments: &[Moment], count: u64) -> usize
     ensures value { result ≡ length (filter (is_event count) moments.now) }
 {
-    let mut many = 0;
-    for moment in moments {
-        if is_event(moment, count) {
-            many += 1;
-        }
+    moments
+        .iter()
+        .filter(|moment| is_event(moment, count))
+        .count()
+}
+
+// Why a reply is refused whose nonce fits no pending request.
+fn refusal_for(unfit: Unfit) -> Refusal
+    ensures value { result ≡ refusal_for unfit }
+{
+    match unfit {
+        Unfit::Unknown => Refusal::UnknownNonce,
+        Unfit::Late => Refusal::TooLate,
     }
-    many
 }
 
 impl Exchange {
     // Nothing was asked yet, the local clock's count is 0, and true time is anything up to the latest at the beginning.
-    pub fn new(heap: Global, servers: u8, faulty: u8, drift: Drift) -> Result<Exchange, AllocError>
-        requires { servers ≤ 10 }
-        ensures begins { IfOk result (λ x. Begins servers faulty drift.millionths (state_of x) (runs_of x)) }
-        ensures on { IfOk result (λ x. BeginsOn servers faulty drift.millionths (2 ^ 61) (state_of x) (runs_of x)) }
+    pub fn new(alloc: Global, servers: Servers, drift: Drift) -> Result<Exchange, AllocError>
+        ensures begins { IfOk result (λ x. Begins servers.many servers.faulty drift.millionths (state_of x) (runs_of x)) }
+        ensures on { IfOk result (λ x. BeginsOn servers.many servers.faulty drift.millionths (2 ^ 61) (state_of x) (runs_of x)) }
     {
-        let window = Window::new(heap, servers, faulty, drift, LATEST)?;
-        let requests = Requests::new(heap)?;
-        let mut runs = vec![in heap; Run { lo: 0, hi: 0 }; window.many()]?;
-        let said = window.union(&mut runs);
+        let window = Window::new(alloc, servers, drift, LATEST)?;
+        let requests = Requests::new(alloc)?;
+        let mut runs = Vec::with_capacity(alloc, window.many())?;
+        window.union(&mut runs);
         Ok(Exchange {
             servers,
             window,
@@ -72,7 +78,6 @@ impl Exchange {
             last: 0,
             count: 0,
             runs,
-            said,
         })
     }
 
@@ -138,7 +143,7 @@ impl Exchange {
         ensures asks { Asks server nonce (state_of self.old) (runs_of self.old) result (state_of self.new) (runs_of self.new) }
         ensures on { AsksOn server (state_of self.old) (runs_of self.old) result (state_of self.new) (runs_of self.new) }
     {
-        if server >= self.servers {
+        if server >= self.servers.many() {
             return Err(Refusal::OutOfRange);
         }
         if self.requests.is_full() {
@@ -168,31 +173,25 @@ impl Exchange {
         Ok(self.make(true, None))
     }
 
-    // Whether a reply's server is there, and its midpoint and radius are in range.
-    fn in_range(&self, server: u8, midpoint: u64, radius: u32) -> bool
-        ensures value { result ≡ in_range server midpoint radius (state_of self.now) }
+    // Whether a reading's server is there, and its midpoint and radius are in range.
+    fn in_range(&self, reading: &Reading) -> bool
+        ensures value { result ≡ in_range reading.now (state_of self.now) }
     {
-        server < self.servers && midpoint <= CEILING && radius <= WIDEST
+        reading.server < self.servers.many()
+            && reading.midpoint <= CEILING
+            && reading.radius <= WIDEST
     }
 
-    // The place of the pending request that a reply answers, or why it is refused. Where this says that it is too late, its nonce is known.
-    pub fn place(
-        &self,
-        server: u8,
-        nonce: &[u8; 32],
-        midpoint: u64,
-        radius: u32,
-    ) -> Result<usize, Refusal>
-        ensures cases { MatchResult result (λ p. (reply_refusal server nonce.now midpoint radius (state_of self.now) ≡ None) × (in_range server midpoint radius (state_of self.now) ≡ true) × (standing_of server nonce.now (state_of self.now).book ≡ Pending p)) (λ e. reply_refusal server nonce.now midpoint radius (state_of self.now) ≡ Some e) }
+    // The place of the pending request that a reply with this reading answers, or why it is refused. Where this says that it is too late, its nonce is known.
+    pub fn place(&self, reading: &Reading) -> Result<usize, Refusal>
+        ensures cases { MatchResult result (λ p. (reply_refusal reading.now (state_of self.now) ≡ None) × (in_range reading.now (state_of self.now) ≡ true) × (standing_of reading.now.server reading.now.nonce (state_of self.now).book ≡ Ok p)) (λ e. reply_refusal reading.now (state_of self.now) ≡ Some e) }
     {
-        if !self.in_range(server, midpoint, radius) {
+        if !self.in_range(reading) {
             return Err(Refusal::OutOfRange);
         }
-        match self.requests.standing(server, nonce) {
-            Standing::Unknown => Err(Refusal::UnknownNonce),
-            Standing::Late => Err(Refusal::TooLate),
-            Standing::Pending(place) => Ok(place),
-        }
+        self.requests
+            .standing(reading.server, &reading.nonce)
+            .map_err(refusal_for)
     }
 
     // Puts the greatest that a reply says down at its asking, and goes through all moments since again; says the count of its asking.
@@ -207,26 +206,18 @@ impl Exchange {
         request.count
     }
 
-    // Accepts a reply of a server with a nonce: its midpoint and its radius say when it was made.
-    pub fn accept(
-        &mut self,
-        server: u8,
-        nonce: &[u8; 32],
-        midpoint: u64,
-        radius: u32,
-    ) -> Result<Heard, Refusal>
-        ensures accepts { Accepts server nonce.now midpoint radius (state_of self.old) (runs_of self.old) result (state_of self.new) (runs_of self.new) }
-        ensures on { AcceptsOn server (state_of self.old) (runs_of self.old) result (state_of self.new) (runs_of self.new) }
+    // Accepts a reply with this reading, which says when it was made.
+    pub fn accept(&mut self, reading: &Reading) -> Result<Heard, Refusal>
+        ensures accepts { Accepts reading.now (state_of self.old) (runs_of self.old) result (state_of self.new) (runs_of self.new) }
+        ensures on { AcceptsOn reading.now.server (state_of self.old) (runs_of self.old) result (state_of self.new) (runs_of self.new) }
     {
-        let place = match self.place(server, nonce, midpoint, radius) {
-            Ok(place) => place,
-            Err(refusal) => return Err(refusal),
-        };
-        let least = midpoint.saturating_sub(u64::from(radius));
-        let greatest = midpoint.saturating_add(u64::from(radius));
-        let asked = self.take_reply(place, server, greatest);
+        let place = self.place(reading)?;
+        let radius = u64::from(reading.radius);
+        let least = reading.midpoint.saturating_sub(radius);
+        let greatest = reading.midpoint.saturating_add(radius);
+        let asked = self.take_reply(place, reading.server, greatest);
         self.close_far();
-        let made = self.make(false, Some(Claim::AtLeast(server, least)));
+        let made = self.make(false, Some(Claim::AtLeast(reading.server, least)));
         Ok(Heard {
             made,
             asked,

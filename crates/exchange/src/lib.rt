@@ -1,11 +1,11 @@
 // A box's reckoning without bytes: it asks, accepts replies, shows the time and marks events, and says what can be known.
 #![tactic(auto)]
 
-ghost use Rattle.std.specs.Prelude.{◌≤◌, vec_len};
-ghost use Rattle.requests.specs.Pending.{waiting_in};
+ghost use Rattle.std.specs.Prelude.{◌≤◌, vec_capacity, vec_len};
 ghost use Rattle.requests.specs.Request.{reach_of};
 
 use choice::runs::Run;
+use choice::servers::Servers;
 use requests::Requests;
 use window::Window;
 
@@ -17,16 +17,13 @@ mod reads;
 // What was kept of a run: the window of its moments, the requests, the local clock's count at the last moment and now, and the runs of times that are said.
 #[derive(Drop)]
 pub struct Exchange {
-    servers: u8,
+    servers: Servers,
     window: Window,
     requests: Requests,
     last: u64,
     count: u64,
     runs: Vec<Run>,
-    said: usize,
-    ghost few: { servers ≤ 10 },
     ghost order: { last ≤ count },
-    ghost reach: { reach_of (waiting_in requests.pending) ≤ window.lag },
-    ghost roomy: { vec_len window.choices ≤ vec_len runs },
-    ghost within: { said ≤ vec_len runs },
+    ghost reach: { reach_of requests.pending ≤ window.lag },
+    ghost room: { vec_len window.here ≤ vec_capacity runs },
 }

@@ -8,7 +8,7 @@ ghost use Rattle.exchange.specs.Steps.{finished, forgets, is_lost, momented, res
 ghost use Rattle.exchange.specs.Stands.{Said};
 
 use crate::Exchange;
-use choice::row::Claim;
+use choice::case::Claim;
 use requests::request::Over;
 use trail::Moment;
 
@@ -40,7 +40,7 @@ impl Exchange {
         ensures value { state_of self.new ≡ state_of self.old }
         ensures says { Said (state_of self.new).window.here (runs_of self.new) }
     {
-        self.said = self.window.union(&mut self.runs);
+        self.window.union(&mut self.runs);
     }
 
     // Begins anew, since no world is left.
