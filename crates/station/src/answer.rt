@@ -1,6 +1,5 @@
-// What the box answers to a message.
+// What the box answers to a message that is not refused.
 use exchange::made::{Heard, Made};
-use wire::refusal::Refusal;
 
 // What was done at a moment: the time was shown, a server was asked with a nonce, a server's reply was accepted, or an event was marked.
 #[derive(Clone, Copy)]
@@ -11,11 +10,9 @@ pub enum Deed {
     Marked,
 }
 
-// A message is refused; it leaves nothing to say; it makes a moment; or it is answered by the least and the greatest time of an event.
+// A message makes a moment, or it is answered by the count of an event and the least and the greatest time of it.
 #[derive(Clone, Copy)]
 pub enum Answer {
-    Refused(Refusal),
-    Nothing,
     Moment(Deed, Made),
     Event(u64, u64, u64),
 }

@@ -1,7 +1,7 @@
 // The box as one machine: a message in, an answer out.
 #![tactic(auto)]
 
-ghost use Rattle.std.specs.Prelude.{◌≡◌, ◌*◌, ◌≤◌, vec_len};
+ghost use Rattle.std.specs.Prelude.{◌≡◌, vec_len};
 
 use exchange::Exchange;
 use hand::Hand;
@@ -9,11 +9,11 @@ use hand::Hand;
 pub mod answer;
 mod calls;
 
-// The box once it is set up: its reckoning, its hand, and the servers' keys, 32 bytes each, one after another.
+// The box once it is set up: its reckoning, its hand, and the servers' keys.
 #[derive(Drop)]
 pub struct Machine {
     exchange: Exchange,
     hand: Hand,
-    keys: Vec<u8>,
-    ghost keyed: { vec_len keys ≡ 32 * exchange.servers },
+    keys: Vec<[u8; 32]>,
+    ghost keyed: { vec_len keys ≡ exchange.servers.many },
 }
