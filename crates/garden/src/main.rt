@@ -2,7 +2,7 @@
 #![tactic(auto)]
 
 use anyhow::anyhow;
-use choice::row::is_faulty;
+use choice::case::is_faulty;
 use choice::runs::Run;
 use play::Player;
 use play::scene::Moment;

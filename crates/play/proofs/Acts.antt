@@ -11,7 +11,7 @@ use Rattle.span.proofs.Products.{allowed_fits}
 use Rattle.span.proofs.Paths.{way_path, path_way, wider_path}
 use Rattle.choice.specs.Choice.{bit}
 use Rattle.choice.specs.Promise.{FaultyInAll}
-use Rattle.choice.specs.Stands.{Stands, NamesExact}
+use Rattle.choice.specs.Stands.{NamesExact}
 use Rattle.choice.proofs.Bits.{many_same}
 use Rattle.choice.proofs.Fuller.{with_one, with_more, one_at, one_off}
 use Rattle.script.specs.declared.Settings.{Settings}
@@ -31,7 +31,7 @@ world_of r es ts p h = record {
 }
 
 pub always_said : (r : Rules) (es : List Event) (ts : List ℕ) (p : Played) → Plays r es ts p → said_of p ≡ true
-always_said r es ts p h = (h.says.exact r es p.choices h.stands p.truth).1 (world_of r es ts p h)
+always_said r es ts p h = (h.says.exact r es h.stands p.truth).1 (world_of r es ts p h)
 
 -- no tick, and no time
 fits_still : (d t : ℕ) → Fits d 0 t t
@@ -46,8 +46,8 @@ module _ (p q : Played) (same : Same p q) (liars : SameLiars p q) (r : Rules) (e
   same_there v e = subst (λ n. v < n) (sym same.servers) (h.there v (ap (λ bs. liars_of bs v) (sym liars.lied) ∙ e))
 
 -- time passes
-pub passes_on : (n u low high : ℕ) (p q : Played) → allowed p.drift n u ≡ true → p.truth + u ≤ ceiling → Strides p.drift n low high → q.count ≡ p.count + n → q.truth ≡ p.truth + u → Same p q → SameLiars p q → q.choices ≡ p.choices → Passes low high p.choices p.row q.row → Says q.row q.runs → LeadsOn (shows n ∷ []) p q
-passes_on n u low high p q a c s count truth same liars choices passes says r es ts h = (
+pub passes_on : (n u low high : ℕ) (p q : Played) → allowed p.drift n u ≡ true → p.truth + u ≤ ceiling → Strides p.drift n low high → q.count ≡ p.count + n → q.truth ≡ p.truth + u → Same p q → SameLiars p q → Passes low high p.row q.row → Says q.row q.runs → LeadsOn (shows n ∷ []) p q
+passes_on n u low high p q a c s count truth same liars passes says r es ts h = (
   (p.truth + u) ∷ ts,
   record {
     servers = same.servers ∙ h.servers;
@@ -61,7 +61,7 @@ passes_on n u low high p q a c s count truth same liars choices passes says r es
         subst (λ bs. Way r (liars_of bs) (shows n ∷ es) q.truth ((p.truth + u) ∷ ts)) (sym liars.lied)
         (subst (λ t. Way r (liars_of p.lied) (shows n ∷ es) t ((p.truth + u) ∷ ts)) (sym truth)
         (goes h.way (subst (λ d. Fits d n p.truth (p.truth + u)) h.drift ((allowed_fits p.drift n p.truth u).0 a)) c tt));
-    stands = subst (λ cs. Stands r (shows n ∷ es) cs q.row) (sym choices) (passes r es n (subst (λ d. Strides d n low high) h.drift s) h.stands);
+    stands = passes r es n (subst (λ d. Strides d n low high) h.drift s) h.stands;
     says = says;
     naming = same.naming ∙ h.naming ∙ sym same.servers;
   },
@@ -80,8 +80,8 @@ heard_way r who es t ts w way true_word =
     goes (goes way still low tt) still low
     (λ e. let k = true_word e in record { at = t; after = omega arith; before = omega arith; low = k.0; high = k.1 })
 
-pub replies_on : (low high : ℕ) (p q : Played) (w : Word) → least_of w ≤ p.truth → p.truth ≤ greatest_of w → Strides p.drift 0 low high → q.count ≡ p.count → q.truth ≡ p.truth → Same p q → SameLiars p q → q.choices ≡ p.choices → Hears low high w.server (least_of w) (greatest_of w) p.choices p.row q.row → Says q.row q.runs → LeadsOn (heard_of w) p q
-replies_on low high p q w lo hi s count truth same liars choices told says r es ts h = (
+pub replies_on : (low high : ℕ) (p q : Played) (w : Word) → least_of w ≤ p.truth → p.truth ≤ greatest_of w → Strides p.drift 0 low high → q.count ≡ p.count → q.truth ≡ p.truth → Same p q → SameLiars p q → Hears low high w.server (least_of w) (greatest_of w) p.row q.row → Says q.row q.runs → LeadsOn (heard_of w) p q
+replies_on low high p q w lo hi s count truth same liars told says r es ts h = (
   p.truth ∷ (p.truth ∷ ts),
   record {
     servers = same.servers ∙ h.servers;
@@ -95,7 +95,7 @@ replies_on low high p q w lo hi s count truth same liars choices told says r es 
         subst (λ bs. Way r (liars_of bs) (hears w.server (least_of w) (greatest_of w) ∷ (asks w.server ∷ es)) q.truth (p.truth ∷ (p.truth ∷ ts))) (sym liars.lied)
         (subst (λ t. Way r (liars_of p.lied) (hears w.server (least_of w) (greatest_of w) ∷ (asks w.server ∷ es)) t (p.truth ∷ (p.truth ∷ ts))) (sym truth)
         (heard_way r (liars_of p.lied) es p.truth ts w h.way (λ _. (lo, hi))));
-    stands = subst (λ cs. Stands r (hears w.server (least_of w) (greatest_of w) ∷ (asks w.server ∷ es)) cs q.row) (sym choices) (told r es (subst (λ d. Strides d 0 low high) h.drift s) (omega arith) h.stands);
+    stands = told r es (subst (λ d. Strides d 0 low high) h.drift s) (omega arith) h.stands;
     says = says;
     naming = same.naming ∙ h.naming ∙ sym same.servers;
   },
@@ -120,8 +120,8 @@ liars_more lied v n h l = go (liars_of lied v) refl where
   go true e = many_same (liars_of (set lied v true)) (liars_of lied) n (λ k _. ⊎_elim (λ same. ap (liars_of (set lied v true)) same ∙ liar_at lied v h ∙ sym (ap (liars_of lied) same ∙ e)) (λ apart. liar_off lied v k apart) (cases_eq k v)) ∙ sym (add-zero _)
   go false e = many_same (liars_of (set lied v true)) (with_one (liars_of lied) v) n (λ k _. alike k) ∙ with_more (liars_of lied) v n l e
 
-pub lies_on : (low high : ℕ) (p q : Played) (w : Word) → w.server < p.servers → w.server < length p.lied → q.liars ≤ q.faulty → least_of w ≤ greatest_of w → Strides p.drift 0 low high → q.count ≡ p.count → q.truth ≡ p.truth → Same p q → q.lied ≡ set p.lied w.server true → q.liars ≡ p.liars + cond (get_or p.lied w.server false) 0 1 → q.choices ≡ p.choices → Hears low high w.server (least_of w) (greatest_of w) p.choices p.row q.row → Says q.row q.runs → LeadsOn (heard_of w) p q
-lies_on low high p q w there long few order s count truth same lied liars choices told says r es ts h = (
+pub lies_on : (low high : ℕ) (p q : Played) (w : Word) → w.server < p.servers → w.server < length p.lied → q.liars ≤ q.faulty → least_of w ≤ greatest_of w → Strides p.drift 0 low high → q.count ≡ p.count → q.truth ≡ p.truth → Same p q → q.lied ≡ set p.lied w.server true → q.liars ≡ p.liars + cond (get_or p.lied w.server false) 0 1 → Hears low high w.server (least_of w) (greatest_of w) p.row q.row → Says q.row q.runs → LeadsOn (heard_of w) p q
+lies_on low high p q w there long few order s count truth same lied liars told says r es ts h = (
   p.truth ∷ (p.truth ∷ ts),
   record {
     servers = same.servers ∙ h.servers;
@@ -137,7 +137,7 @@ lies_on low high p q w there long few order s count truth same lied liars choice
         (heard_way r (liars_of (set p.lied w.server true)) es p.truth ts w
         (path_way r _ es p.truth ts (wider_path r (liars_of p.lied) (liars_of (set p.lied w.server true)) (more_lie p.lied w.server long) (moments es) p.truth ts (way_path h.way)))
         (λ e. absurd (both_ways (liars_of (set p.lied w.server true) w.server) e (liar_at p.lied w.server long)))));
-    stands = subst (λ cs. Stands r (hears w.server (least_of w) (greatest_of w) ∷ (asks w.server ∷ es)) cs q.row) (sym choices) (told r es (subst (λ d. Strides d 0 low high) h.drift s) order h.stands);
+    stands = told r es (subst (λ d. Strides d 0 low high) h.drift s) order h.stands;
     says = says;
     naming = same.naming ∙ h.naming ∙ sym same.servers;
   },
@@ -155,7 +155,7 @@ nobody who h zero = refl
 nobody who h (suc n) = ap (λ b. cond b 1 0 + how_many who n) (h n) ∙ omega (arith, nobody who h n)
 
 -- settings in range begin a world
-pub begins_world : (s : Settings) (p : Played) → s.truth ≤ latest → s.faulty < s.servers → p.servers ≡ s.servers → p.faulty ≡ s.faulty → p.liars ≡ 0 → p.lied ≡ replicate 10 false → p.drift ≡ s.drift → p.count ≡ 0 → p.truth ≡ s.truth → Begins s.servers s.faulty latest p.choices p.row → Says p.row p.runs → p.naming ≡ s.servers → Plays (rules_of s) [] [] p
+pub begins_world : (s : Settings) (p : Played) → s.truth ≤ latest → s.faulty < s.servers → p.servers ≡ s.servers → p.faulty ≡ s.faulty → p.liars ≡ 0 → p.lied ≡ replicate 10 false → p.drift ≡ s.drift → p.count ≡ 0 → p.truth ≡ s.truth → Begins s.servers s.faulty latest p.row → Says p.row p.runs → p.naming ≡ s.servers → Plays (rules_of s) [] [] p
 begins_world s p low fewer servers faulty liars lied drift count truth first says naming = record {
   servers = servers;
   faulty = faulty;
@@ -178,5 +178,5 @@ pub may_lie_lem : (p : Played) (w : Word) → lie_fault p w ≡ None → (w.serv
 may_lie_lem p w e = (grind (arith, nat_tests), grind (arith, nat_tests))
 
 -- the named servers are those that are faulty in every world
-pub names_all : (p : Played) (set : ℕ) → NamesExact p.naming p.choices p.row set → NamesAll p set
+pub names_all : (p : Played) (set : ℕ) → NamesExact p.naming p.row set → NamesAll p set
 names_all p set exact r es ts h v = subst (λ n. (v < n → Decides (bit set v) (FaultyInAll r es v)) × (bit set v ≡ true → v < n)) h.naming (exact r es h.stands v)

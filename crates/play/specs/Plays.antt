@@ -35,7 +35,7 @@ pub record Plays (r : Rules) (es : List Event) (ts : List ℕ) (p : Played) : Ty
   pub many : how_many (liars_of p.lied) p.servers ≡ p.liars
   pub there : (v : ℕ) → liars_of p.lied v ≡ true → v < p.servers
   pub way : Way r (liars_of p.lied) es p.truth ts
-  pub stands : Stands r es p.choices p.row
+  pub stands : Stands r es p.row
   pub says : Says p.row p.runs
   pub naming : p.naming ≡ p.servers
 
@@ -66,10 +66,9 @@ pub record Heard (p : Played) (w : Word) (q : Played) : Type 0 where
   pub same : Same p q
   pub count : q.count ≡ p.count
   pub truth : q.truth ≡ p.truth
-  pub choices : q.choices ≡ p.choices
   pub hand : q.hand ≡ hand_heard p q
   pub low : ℕ
   pub high : ℕ
   pub strides : Strides p.drift 0 low high
-  pub hears : Hears low high w.server (least_of w) (greatest_of w) p.choices p.row q.row
+  pub hears : Hears low high w.server (least_of w) (greatest_of w) p.row q.row
   pub says : Says q.row q.runs

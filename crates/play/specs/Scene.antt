@@ -1,7 +1,8 @@
 -- What a played world holds, when a step of it is refused, and what is shown of it.
-use Rattle.std.specs.Prelude.{◌≡◌, ℕ, ◌+◌, ◌-◌, ◌^◌, Bool, true, false, cond, ◌&&◌, ◌||◌, ◌⊎◌, List, take, Some, None, vec_items, Option, Result, MatchResult, nat_le, nat_lt, slice_index_or, slice_set}
+use Rattle.std.specs.Prelude.{◌≡◌, ℕ, ◌+◌, ◌-◌, ◌^◌, Bool, true, false, cond, ◌&&◌, ◌||◌, ◌⊎◌, List, Some, None, vec_items, Option, Result, MatchResult, nat_le, nat_lt, slice_index_or, slice_set}
 use Rattle.span.specs.Rate.{allowed}
 use Rattle.span.specs.Span.{ceiling}
+use Rattle.choice.specs.declared.case.Case.{Case}
 use Rattle.choice.specs.declared.runs.Run.{Run}
 use Rattle.choice.specs.Runs.{in_runs, bounds_of}
 use Rattle.hand.specs.declared.Hand.{Hand}
@@ -25,25 +26,23 @@ pub record Played : Type 0 where
   pub drift : ℕ
   pub count : ℕ
   pub truth : ℕ
-  pub choices : List ℕ
-  pub row : List ℕ
+  pub row : List Case
   pub runs : List Run
   pub naming : ℕ
   pub hand : Hand
 
 abbrev pub view_of : Scene → Played
 view_of s = record {
-  servers = s.cast.servers;
-  faulty = s.cast.faulty;
+  servers = s.cast.servers.many;
+  faulty = s.cast.servers.faulty;
   liars = s.cast.liars;
   lied = s.cast.lied;
   drift = s.drift.millionths;
   count = s.count;
   truth = s.truth;
-  choices = vec_items s.ledger.choices;
-  row = vec_items s.ledger.here;
-  runs = take s.ledger.said (vec_items s.ledger.runs);
-  naming = s.ledger.servers;
+  row = vec_items s.ledger.row;
+  runs = vec_items s.ledger.runs;
+  naming = s.ledger.servers.many;
   hand = s.hand;
 }
 

@@ -121,7 +121,7 @@ impl Scene {
         if settings.truth > LATEST {
             return Err(Fault::SettingsRange);
         }
-        let ledger = Ledger::new(alloc, cast.servers(), cast.faulty(), LATEST)?;
+        let ledger = Ledger::new(alloc, cast.servers(), LATEST)?;
         Ok(Scene {
             cast,
             drift,

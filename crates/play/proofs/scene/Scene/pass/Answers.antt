@@ -11,7 +11,7 @@ returns c =
     let count : c.in_ok-count.count ≡ c.args.self.now.count + c.args.ticks = added.1 in
     record {
       answer = grind (arith, nat_tests);
-      after = record { same = record { servers = refl; faulty = refl; drift = refl; naming = c.pass.ensures.same.1 }; liars = record { liars = refl; lied = refl }; count = count; truth = truth; hand = c.passed-self.ensures.value ∙ ap (λ rs. passed rs c.args.ticks c.args.self.now.hand) c.runs.ensures.value };
+      after = record { same = record { servers = refl; faulty = refl; drift = refl; naming = ap (λ s. s.many) c.pass.ensures.same }; liars = record { liars = refl; lied = refl }; count = count; truth = truth; hand = c.passed-self.ensures.value ∙ ap (λ rs. passed rs c.args.ticks c.args.self.now.hand) c.runs.ensures.value };
       same = tt;
-      leads = passes_on c.args.ticks c.args.step _ _ _ _ (sym c.if-not-allows.ensures.value) (omega arith) c.stride.ensures.value count truth (record { servers = refl; faulty = refl; drift = refl; naming = c.pass.ensures.same.1 }) (record { liars = refl; lied = refl }) c.pass.ensures.same.0 c.pass.ensures.passes c.pass.ensures.says;
+      leads = passes_on c.args.ticks c.args.step _ _ _ _ (sym c.if-not-allows.ensures.value) (omega arith) c.stride.ensures.value count truth (record { servers = refl; faulty = refl; drift = refl; naming = ap (λ s. s.many) c.pass.ensures.same }) (record { liars = refl; lied = refl }) c.pass.ensures.passes c.pass.ensures.says;
     }

@@ -11,5 +11,5 @@ returns c =
       answer = none;
       after = record { same = h.same; liars = c.hear.ensures.liars; count = h.count; truth = h.truth; hand = h.hand };
       same = tt;
-      leads = replies_on h.low h.high _ _ c.args.word.now k.0 k.1 h.strides h.count h.truth h.same c.hear.ensures.liars h.choices h.hears h.says;
+      leads = replies_on h.low h.high _ _ c.args.word.now k.0 k.1 h.strides h.count h.truth h.same c.hear.ensures.liars h.hears h.says;
     }
