@@ -1,6 +1,7 @@
 // Who is there: how many servers, how many of them may be faulty, and which have lied so far.
 ghost use Rattle.std.specs.Prelude.{◌≡◌, ◌+◌, ◌<◌, ◌≤◌, true, false, ◌&&◌, ◌||◌, is_some, length, replicate, if◌then◌else◌, IfSome, nat_le, nat_lt, slice_index_or, slice_set};
 
+// How many have lied stays beside who has, since a lie is refused by their number.
 #[derive(Drop)]
 pub(crate) struct Cast {
     servers: u8,
