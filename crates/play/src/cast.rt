@@ -3,6 +3,7 @@ ghost use Rattle.std.specs.Prelude.{◌≡◌, ◌+◌, ◌<◌, ◌≤◌, true
 
 use choice::servers::Servers;
 
+// How many have lied stays beside who has, since a lie is refused by their number.
 #[derive(Drop)]
 pub(crate) struct Cast {
     servers: Servers,

@@ -100,6 +100,7 @@ fn width(runs: &[Run]) -> u64
 }
 
 // A played world now: who is there, the local clock's drift and count, true time, what is said, and the hand.
+// Clauses see it by a function over its fields: by a model, a step that is refused would promise less of what stays.
 #[derive(Drop)]
 pub struct Scene {
     cast: Cast,

@@ -40,7 +40,7 @@ impl Request {
         self.since >= MOMENTS
     }
 
-    // Whether this nonce was sent to this server.
+    // Whether this nonce was sent to this server. The two stay apart, as they are in a reply.
     pub(crate) fn is_for(&self, server: u8, nonce: &[u8; 32]) -> bool
         ensures value { result ≡ is_for server nonce.now self.now }
     {
