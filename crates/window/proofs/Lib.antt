@@ -1,4 +1,3 @@
-pub mod Rings
 pub mod Walks
 pub mod Onto
 pub mod Stays

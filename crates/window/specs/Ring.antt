@@ -1,11 +1,14 @@
 -- The moments that a ring keeps, the oldest first.
-use Rattle.std.specs.Prelude.{false, List, drop, Some, None, vec_items}
+use Rattle.std.specs.Prelude.{ℕ, ◌+◌, ◌≤◌, false, Some, None}
 use Rattle.choice.specs.declared.case.Claim.{Claim}
 use Rattle.trail.specs.declared.Moment.{Moment}
-use Rattle.window.specs.declared.ring.Ring.{Ring}
 
-abbrev pub kept_in : Ring → List Moment
-kept_in ring = drop ring.start (vec_items ring.moments)
+-- what is true of the memory of kept moments: where they begin, how many there are with those that are forgotten, and for how many there is room
+pub record IsKept (start many room : ℕ) : Type 0 where
+  pub within : start ≤ many
+  pub few : many ≤ start + 1024
+  pub short : many ≤ 2048
+  pub roomy : 2048 ≤ room
 
 -- what stands past the end of a list
 abbrev pub nothing : Moment

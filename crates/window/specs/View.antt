@@ -2,7 +2,6 @@
 use Rattle.std.specs.Prelude.{ℕ, List, vec_items}
 use Rattle.choice.specs.declared.case.Case.{Case}
 use Rattle.trail.specs.declared.Moment.{Moment}
-use Rattle.window.specs.Ring.{kept_in}
 use Rattle.window.specs.declared.Window.{Window}
 
 -- how many servers there are, and the drift in millionths; the rows of the choices' spans before the kept moments, at the mark, and now; the kept moments, the oldest first, and how many of them came since the mark
@@ -22,6 +21,6 @@ view_of w = record {
   base = vec_items w.base;
   mark = vec_items w.mark;
   here = vec_items w.here;
-  kept = kept_in w.ring;
+  kept = w.ring;
   lag = w.lag;
 }

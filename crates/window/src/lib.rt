@@ -2,7 +2,6 @@
 #![tactic(auto)]
 
 ghost use Rattle.std.specs.Prelude.{◌≡◌, ◌≤◌, length, vec_len};
-ghost use Rattle.window.specs.Ring.{kept_in};
 
 use choice::case::Case;
 use choice::servers::Servers;
@@ -24,5 +23,5 @@ pub struct Window {
     ring: Ring,
     lag: usize,
     ghost paired: { vec_len mark ≡ vec_len here },
-    ghost reach: { lag ≤ length (kept_in ring) },
+    ghost reach: { lag ≤ length ring },
 }
