@@ -16,7 +16,7 @@ pub enum Claim {
     AtLeast(u8, u64),
 }
 
-// A choice, and the span of times that it can be if just its servers are faulty, by its two ends; there is no time where the first is above the second.
+// A choice, and the span of times that it can be if just its servers are faulty: its two ends beside each other, as the project asks; there is no time where the first is above the second.
 #[derive(Clone, Copy)]
 pub struct Case {
     pub choice: u16,

@@ -43,9 +43,7 @@ pub trait Rule {
     ghost blames: { List Event → ℕ → Type 0 };
 }
 
-// No rule that is never wrong says less than what may be, or blames a server that is not named.
-pub fn no_rule_says_less<R: Rule>() -> bool
+// No rule that is never wrong says less than what may be, or blames a server that is not named: there is nothing to run.
+pub fn no_rule_says_less<R: Rule>()
     ensures least { SaysNoLess R.Rule.says R.Rule.blames }
-{
-    true
-}
+{}

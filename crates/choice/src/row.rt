@@ -72,7 +72,7 @@ pub fn may(row: &[Case], t: u64) -> bool
     row.iter().any(|case| case.span().contains(t))
 }
 
-// Whether a server is faulty in every choice that has a span.
+// Whether a server is faulty in every choice that has a span. The loop is left by a label, as the project asks.
 pub fn is_named(row: &[Case], server: u8) -> bool
     ensures value { result ≡ named_by server row.now }
     ensures exact { NamedExact server row.now result }

@@ -51,7 +51,7 @@ fn count_events(moments: &[Moment], count: u64) -> usize
         .count()
 }
 
-// Why a reply is refused whose nonce fits no pending request.
+// Why a reply is refused whose nonce fits no pending request. A function and no `From`, since both types are of other crates.
 fn refusal_for(unfit: Unfit) -> Refusal
     ensures value { result ≡ refusal_for unfit }
 {

@@ -105,8 +105,8 @@ impl Hand {
     }
 }
 
-// What is promised of every history of updates.
-pub fn hand_stands() -> u8
+// What is promised of every history of updates: there is nothing to run.
+pub fn hand_stands()
     ensures kept { AlwaysKept }
     ensures back { NeverGoesBack }
     ensures slow { SlowUnlessForced }
@@ -115,9 +115,7 @@ pub fn hand_stands() -> u8
     ensures under { NeverPastCeiling }
     ensures middle { WantsMiddle }
     ensures single { OneRun }
-{
-    0
-}
+{}
 
 #[cfg(test)]
 mod tests;

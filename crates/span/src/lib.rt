@@ -12,7 +12,7 @@ use rate::{Drift, Stride};
 // No true time is later than this, in microseconds.
 pub const CEILING: u64 = 1 << 62;
 
-// The times from the first end to the second, both included, or none at all.
+// The times from the first end to the second, both included, or none at all. It is an enum of its own, as the project asks: a set of times that moves on and is cut has methods, which an option of two ends has not.
 #[derive(Clone, Copy, PartialEq, Eq, Debug)]
 pub enum Span {
     Between(u64, u64),

@@ -12,7 +12,7 @@ mod moves;
 mod reads;
 pub mod ring;
 
-// Rows of all choices: before the kept moments, before those since the mark, of which there are `lag`, and after all.
+// Rows of all choices: before the kept moments, before those since the mark, of which there are `lag`, and after all. Clauses see it by a function over its fields: a model would hide from its owner that the mark is among the kept moments.
 #[derive(Drop)]
 pub struct Window {
     servers: Servers,
