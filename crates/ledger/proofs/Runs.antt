@@ -1,12 +1,13 @@
 -- A ledger's steps, as events of a run.
-use Rattle.std.proofs.Common.{◌≡◌, ℕ, suc, cond, List, [], ◌∷◌, sym, ap, ◌∙◌}
+use Rattle.std.proofs.Common.{◌≡◌, ℕ, suc, cond, List, [], ◌∷◌, refl, sym, ap, ◌∙◌}
 use Rattle.std.proofs.lemmas.Bool.{le-leb}
+use Rattle.span.specs.declared.Span.{Span}
 use Rattle.span.specs.Span.{upto, ceiling}
 use Rattle.span.specs.Model.{moments, put, plain, lowest, through}
 use Rattle.span.specs.Model as model
 use Rattle.choice.specs.declared.case.Case.{Case}
 use Rattle.choice.specs.declared.case.Claim.TheVariants.{AtMost, AtLeast}
-use Rattle.choice.specs.Row.{choices_in, row_of, row_through}
+use Rattle.choice.specs.Row.{choices_in, over_row, row_of, row_through}
 use Rattle.choice.specs.Moves.{RowMoves, RowCuts}
 use Rattle.choice.specs.Stands.{AllChosen}
 use Rattle.choice.proofs.Standing.{stands_by}
@@ -31,3 +32,8 @@ heard low high v lo hi row one two three after a b c d r es s o h =
     let low : lo ≡ lowest lo hi = sym (ap (λ b. cond b lo (suc ceiling)) (le-leb lo hi o)) in
     stands_by r (hears v lo hi ∷ (asks v ∷ es)) cs after h.choices
     (came ∙ ap (λ x. row_through r (record { ticks = 0; claims = model.AtLeast v x ∷ [] } ∷ (record { ticks = 0; claims = model.AtMost v hi ∷ [] } ∷ ms)) cs) low)
+
+-- spans that are changed leave the choices
+pub choices_over : (f : ℕ → Span → Span) (row : List Case) → choices_in (over_row f row) ≡ choices_in row
+choices_over f [] = refl
+choices_over f (k ∷ row) = ap (λ cs. k.choice ∷ cs) (choices_over f row)

@@ -3,6 +3,7 @@
 
 ghost use Rattle.std.specs.Prelude.{◌≡◌, ◌≤◌, IfOk, vec_capacity, vec_len};
 ghost use Rattle.choice.specs.Moves.{RowCuts, RowMoves};
+ghost use Rattle.choice.specs.Row.{choices_in};
 ghost use Rattle.choice.specs.Stands.{NamesExact};
 ghost use Rattle.ledger.specs.Ledger.{Begins, Hears, Passes, Says};
 
@@ -47,6 +48,7 @@ impl Ledger {
     // Moves all spans on by a stride.
     fn advance(&mut self, stride: Stride)
         ensures moves { RowMoves stride.least stride.most self.old.row.items self.new.row.items }
+        ensures choices { choices_in self.new.row.items ≡ choices_in self.old.row.items }
         ensures same { self.new.servers ≡ self.old.servers }
     {
         move_row(&mut self.row, stride);
@@ -55,6 +57,7 @@ impl Ledger {
     // Cuts by a claim of this moment.
     fn cut(&mut self, claim: Claim)
         ensures cuts { RowCuts claim self.old.row.items self.new.row.items }
+        ensures choices { choices_in self.new.row.items ≡ choices_in self.old.row.items }
         ensures same { self.new.servers ≡ self.old.servers }
     {
         cut_row(&mut self.row, claim);
@@ -63,6 +66,7 @@ impl Ledger {
     // Time passes, by a stride.
     pub fn pass(&mut self, stride: Stride)
         ensures passes { Passes stride.least stride.most self.old.row.items self.new.row.items }
+        ensures choices { choices_in self.new.row.items ≡ choices_in self.old.row.items }
         ensures says { Says self.new.row.items self.new.runs.items }
         ensures same { self.new.servers ≡ self.old.servers }
     {
@@ -73,6 +77,7 @@ impl Ledger {
     // A reply that was asked for and came with no tick between, by the stride of no ticks: it says that it was made between two times.
     pub fn hear(&mut self, still: Stride, server: u8, least: u64, greatest: u64)
         ensures hears { Hears still.least still.most server least greatest self.old.row.items self.new.row.items }
+        ensures choices { choices_in self.new.row.items ≡ choices_in self.old.row.items }
         ensures says { Says self.new.row.items self.new.runs.items }
         ensures same { self.new.servers ≡ self.old.servers }
     {

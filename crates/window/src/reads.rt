@@ -1,5 +1,5 @@
 // What is read off a window.
-ghost use Rattle.std.specs.Prelude.{◌≡◌, ℕ, ◌<◌, ◌≤◌, length, vec_capacity};
+ghost use Rattle.std.specs.Prelude.{◌≡◌, ℕ, ◌<◌, ◌≤◌, length, vec_capacity, vec_len};
 ghost use Rattle.span.specs.Span.{is_in};
 ghost use Rattle.choice.specs.Choice.{choice_of};
 ghost use Rattle.choice.specs.Row.{any_span, has_times, named_by};
@@ -62,6 +62,7 @@ impl Window {
         ensures apart { Apart 0 runs.new.items }
         ensures same { (t : ℕ) → in_runs t runs.new.items ≡ any_span (is_in t) (view_of self.now).here }
         ensures exact { RunsExact (view_of self.now).here runs.new.items }
+        ensures few { vec_len runs.new ≤ length (view_of self.now).here }
         ensures room { vec_capacity runs.new ≡ vec_capacity runs.old }
     {
         union(&self.here, runs);
