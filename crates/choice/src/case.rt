@@ -37,9 +37,10 @@ impl Claim {
         ensures value { result ≡ cut_by (bit choice) (claim_of self) span }
     {
         match self {
-            Claim::AtMost(server, time) if !is_faulty(choice, server) => span.at_most(time),
-            Claim::AtLeast(server, time) if !is_faulty(choice, server) => span.at_least(time),
-            _ => span,
+            Claim::AtMost(server, _) | Claim::AtLeast(server, _) if is_faulty(choice, server) =>
+                span,
+            Claim::AtMost(_, time) => span.at_most(time),
+            Claim::AtLeast(_, time) => span.at_least(time),
         }
     }
 }

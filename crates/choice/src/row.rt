@@ -56,7 +56,7 @@ pub fn cut_row(row: &mut [Case], claim: Claim)
     }
 }
 
-// Whether some choice has a span.
+// Whether some choice has a span. This and the next are each one call of `any`: one function for both would be that method again.
 pub fn any_left(row: &[Case]) -> bool
     ensures value { result ≡ any_span has_times row.now }
     ensures exact { LeftExact row.now result }
@@ -87,7 +87,7 @@ pub fn is_named(row: &[Case], server: u8) -> bool
     named
 }
 
-// The servers that are faulty in every choice that has a span, as bits of a number.
+// The servers that are faulty in every choice that has a span, as bits of a number, of which there may be up to sixteen.
 pub fn named(row: &[Case], servers: u8) -> u16
     requires { servers ≤ 16 }
     ensures value { result ≡ choice_of (λ v. named_by v row.now) servers }

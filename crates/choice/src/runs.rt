@@ -35,7 +35,7 @@ fn is_taken_in(next: &mut Run, run: &mut Run) -> bool
     beside
 }
 
-// Adds the spans of a row that have times, in their order.
+// Adds the spans of a row that have times, in their order. They are pushed one by one: `extend` may run out of memory, and `push_reserved` can't.
 fn gather(row: &[Case], runs: &mut Vec<Run>)
     requires { vec_len runs.old + length row.now ≤ vec_capacity runs.old }
     ensures items { runs.new.items ≡ runs.old.items ++ runs_in row.now }

@@ -138,7 +138,7 @@ impl Exchange {
         self.requests.add(server, nonce, self.count);
     }
 
-    // Asks a server, with a nonce.
+    // Asks a server, with a nonce. The moment is made as by `make`, but that the request waits before what is said is worked out: a step handed in there would have to be told in its contract.
     pub fn ask(&mut self, server: u8, nonce: [u8; 32]) -> Result<Made, Refusal>
         ensures asks { Asks server nonce (state_of self.old) (runs_of self.old) result (state_of self.new) (runs_of self.new) }
         ensures on { AsksOn server (state_of self.old) (runs_of self.old) result (state_of self.new) (runs_of self.new) }

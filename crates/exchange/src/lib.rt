@@ -14,7 +14,7 @@ pub mod made;
 mod moments;
 mod reads;
 
-// What was kept of a run: the window of its moments, the requests, the local clock's count at the last moment and now, and the runs of times that are said. Clauses see it by functions over its fields, as its owner's ghost fields do.
+// What was kept of a run: the window of its moments, the requests, the local clock's count at the last moment and now, and the runs of times that are said. Clauses see it by functions over its fields: a model would hide from its owner that no request was asked before the mark.
 #[derive(Drop)]
 pub struct Exchange {
     servers: Servers,

@@ -8,7 +8,7 @@ use play::Player;
 use play::scene::Moment;
 use std::io::{BufRead, BufReader};
 
-// The runs of times that are said.
+// The runs of times that are said. A run of the library `choice` has no one text, so that it is printed here and has no `Display`.
 fn print_runs(rt: &HostRuntime, runs: &[Run]) -> anyhow::Result<()> {
     print!(rt; " runs")?;
     for Run { lo, hi } in runs {

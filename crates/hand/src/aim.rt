@@ -13,7 +13,7 @@ fn length(run: Run) -> u64
     run.hi.saturating_sub(run.lo)
 }
 
-// The longest of the first run and the rest, the earlier of equal ones.
+// The longest of the first run and the rest, the earlier of equal ones. `max_by_key` takes the later of them, so that it would have to go through the runs from behind.
 #[tactic(auto, unfolding(crate::specs::Hand::longest))]
 fn longest(first: Run, rest: &[Run]) -> Run
     ensures value { result ≡ longest first rest.now }

@@ -1,4 +1,4 @@
-//! The digit that each character is, by its number, and 16 for one that is none.
+//! The digit that each character is, by its number, and 16 for one that is none: so the table is one of bytes, and no digit is above all.
 
 /// A digit for each of the 256 characters.
 pub(crate) static DIGITS: [u8; 256] = [

@@ -1,4 +1,7 @@
 //! Bytes as text: two hexadecimal digits for each, written in lower case and read in either, a line at a time.
+//!
+//! What is written to lent memory is answered by how many bytes it is, and not as a slice of that memory: the memory would stay lent, and
+//! no contract could say what is left in the rest of it.
 ghost use Rattle.std.specs.Prelude.{◌≡◌, ◌+◌, ◌*◌, ◌/◌, ◌%◌, ◌<◌, ◌≤◌, true, [], ◌∷◌, ◌++◌, length, drop, Ok, Err, MatchOption, MatchResult};
 ghost use Rattle.hextext.specs.Hex.{after_line, all_digits, char_of, digit_of, first_line, line_length, line_of, lines_of, pairs, readable, text_of, hex_of};
 ghost use Rattle.hextext.specs.Laws.{TextLaws};

@@ -7,6 +7,8 @@ use crate::hex::read_line;
 use wire::input::{Input, read_input};
 use wire::refusal::Refusal;
 
+// The record's lines are read so too. One function for both would be generic over a type that borrows from the room, as an associated type
+// with a lifetime of its own, which the language has not.
 /// The message to the box that a line of text is, without the line's end. Its bytes are read to the front of `room`: 327
 /// bytes of it are enough for every message, and a line that is longer than the room is malformed.
 pub fn read_input_line<'a>(text: &[u8], room: &'a mut [u8]) -> Result<Input<'a>, Refusal>

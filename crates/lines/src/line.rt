@@ -1,6 +1,6 @@
 //! The lines of the box's record.
 //!
-//! A body is taken apart by `let .. else`, part after part: a body that lacks a part is malformed.
+//! A body is taken apart by `let .. else`, part after part, as the project asks: a body that lacks a part is malformed.
 ghost use Rattle.std.specs.Prelude.{◌≡◌, [], ◌∷◌, MatchOption};
 ghost use Rattle.std.specs.Option.{ok_or};
 ghost use Rattle.lines.specs.Kinds.{kind_of};

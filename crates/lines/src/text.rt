@@ -7,6 +7,8 @@ use crate::line::{Line, read_entry};
 use hextext::hex::read_line;
 use wire::refusal::Refusal;
 
+// Messages to the box are read so too. One function for both would be generic over a type that borrows from the room, as an associated type
+// with a lifetime of its own, which the language has not.
 /// The line of the record that a line of text is, without the line's end. Its bytes are read to the front of `room`: 4,092
 /// bytes of it are enough for every line, and one that is longer than the room is malformed.
 #[tactic(auto, using(crate::proofs::Records::record_back))]

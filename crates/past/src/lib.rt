@@ -58,7 +58,7 @@ impl Course {
         )
     }
 
-    // The span at the last of the moments `upto`, which begin after `base`; `after` are the moments since.
+    // The span at the last of the moments `upto`, which begin after `base`; `after` are the moments since. The two are the parts of one slice, as `split_at` gives them: a type for both would be taken apart again here.
     fn span_then(self, base: Span, upto: &[Moment], after: &[Moment]) -> Span
         ensures value { result ≡ span_then self.drift.millionths self.choice upto.now after.now base }
     {

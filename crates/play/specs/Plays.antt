@@ -3,6 +3,7 @@ use Rattle.std.specs.Prelude.{◌≡◌, ℕ, ◌+◌, ◌<◌, ◌≤◌, Bool,
 use Rattle.span.specs.Rate.{Strides}
 use Rattle.span.specs.World.{Event, Rules, Faulty, how_many, Way}
 use Rattle.choice.specs.Choice.{bit}
+use Rattle.choice.specs.Row.{choices_in}
 use Rattle.choice.specs.Promise.{FaultyInAll}
 use Rattle.choice.specs.Stands.{Stands}
 use Rattle.script.specs.declared.Settings.{Settings}
@@ -67,6 +68,7 @@ pub record Heard (p : Played) (w : Word) (q : Played) : Type 0 where
   pub count : q.count ≡ p.count
   pub truth : q.truth ≡ p.truth
   pub hand : q.hand ≡ hand_heard p q
+  pub choices : choices_in q.row ≡ choices_in p.row
   pub low : ℕ
   pub high : ℕ
   pub strides : Strides p.drift 0 low high

@@ -3,7 +3,7 @@ ghost use Rattle.std.specs.Prelude.{◌≡◌, ◌+◌, ◌<◌, ◌≤◌, true
 
 use choice::servers::Servers;
 
-// How many have lied stays beside who has, since a lie is refused by their number.
+// How many have lied stays beside who has: that they are no more than may be faulty is then the type's own, and a lie is refused without a count.
 #[derive(Drop)]
 pub(crate) struct Cast {
     servers: Servers,

@@ -17,7 +17,7 @@ use span::rate::Drift;
 use std::alloc::{AllocError, Global};
 use thiserror::Error;
 
-// The latest that true time can be at the beginning.
+// The latest that true time can be at the beginning. An exchange has the same bound, and so has the radius; neither of the two crates stands on the other.
 const LATEST: u64 = 1 << 61;
 
 // No reply's radius is larger.
@@ -58,6 +58,7 @@ pub enum Fault {
     NoMemory,
 }
 
+// The conversions are written out, since those of the derive have no contracts.
 impl From<Unread> for Fault {
     ghost use Rattle.std.specs.Prelude.{◌≡◌};
     ghost use Rattle.play.specs.declared.scene.Fault.{Fault};
@@ -80,7 +81,7 @@ impl From<AllocError> for Fault {
     }
 }
 
-// What is shown of a moment: the local clock's count, true time, whether it was said, how wide what is said is, the named servers, as bits of a number, and the hand, and whether its time may be.
+// What is shown of a moment: the local clock's count, true time, whether it was said, how wide what is said is, the named servers, as bits of a number, and the hand, and whether its time may be. That is no part of the hand's option, since it is said of every hand: one that shows nothing is not sound.
 #[derive(Clone, Copy)]
 pub struct Moment {
     pub count: u64,

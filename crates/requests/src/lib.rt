@@ -78,7 +78,7 @@ impl Requests {
         self.pending.all().len() == 16 && self.reach() <= 64
     }
 
-    // The place of the first pending request by which this nonce was sent to this server.
+    // The place of the first pending request by which this nonce was sent to this server. This and the two like it are each one call of `position`.
     fn first_for(&self, server: u8, nonce: &[u8; 32]) -> Option<usize>
         ensures value { result ≡ position (is_for server nonce.now) self.now.pending }
     {
@@ -130,7 +130,7 @@ impl Requests {
             .position(|request| why.is_over(request))
     }
 
-    // Closes each pending request that is over.
+    // Closes each pending request that is over, one after another, since each goes to the closed ones.
     pub fn close(&mut self, why: Over)
         ensures value { self.new ≡ closed_by why self.old }
     {

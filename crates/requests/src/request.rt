@@ -17,7 +17,7 @@ pub struct Request {
 }
 
 // Why a request is closed: at this count it is too old, 64 moments came since, or all are closed.
-// It stays an enum: a contract says less plainly what a test that is handed in answers.
+// It stays an enum: with a test handed in, each contract of closing would have to say for every request what the test answers, in place of `over why`.
 #[derive(Clone, Copy)]
 pub enum Over {
     Age(u64),
@@ -40,7 +40,7 @@ impl Request {
         self.since >= MOMENTS
     }
 
-    // Whether this nonce was sent to this server. The two stay apart, as they are in a reply.
+    // Whether this nonce was sent to this server. The two stay apart: an asking brings them apart, and a type for the pair would be made anew for each call.
     pub(crate) fn is_for(&self, server: u8, nonce: &[u8; 32]) -> bool
         ensures value { result ≡ is_for server nonce.now self.now }
     {

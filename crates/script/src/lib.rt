@@ -35,7 +35,7 @@ pub enum Statement {
     Lie(Word),
 }
 
-// The first word of a statement.
+// The first word of a statement. It is read before what follows it: a word that begins no statement is the fault, whatever stands behind it.
 #[derive(Clone, Copy)]
 enum Keyword {
     Settings,

@@ -12,7 +12,8 @@ mod moves;
 mod reads;
 pub mod ring;
 
-// Rows of all choices: before the kept moments, before those since the mark, of which there are `lag`, and after all. Clauses see it by a function over its fields: a model would hide from its owner that the mark is among the kept moments.
+// Rows of all choices: before the kept moments, before those since the mark, of which there are `lag`, and after all. They are three rows and not one of three spans a choice, since each is gone through alone, as a row.
+// Clauses see it by a function over its fields: a model would hide from its owner that the mark is among the kept moments.
 #[derive(Drop)]
 pub struct Window {
     servers: Servers,
@@ -22,6 +23,7 @@ pub struct Window {
     here: Vec<Case>,
     ring: Ring,
     lag: usize,
+    ghost based: { vec_len base ≡ vec_len here },
     ghost paired: { vec_len mark ≡ vec_len here },
     ghost reach: { lag ≤ length ring },
 }

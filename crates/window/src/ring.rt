@@ -10,7 +10,7 @@ use trail::Moment;
 // At most so many moments are kept.
 pub const MOST: usize = 1024;
 
-// The moments stand behind one another in memory for twice as many, and those before `start` are forgotten; where the memory is full they are moved to its front.
+// The moments stand behind one another in memory for twice as many, and those before `start` are forgotten; where the memory is full they are moved to its front. So all that are kept are one slice, which in a `VecDeque` they are not.
 #[derive(Drop)]
 pub struct Ring {
     moments: Vec<Moment>,

@@ -1,6 +1,6 @@
 //! The messages that the box takes.
 //!
-//! A body is taken apart by `let .. else`, part after part: a body that lacks a part is malformed.
+//! A body is taken apart by `let .. else`, part after part, as the project asks: a body that lacks a part is malformed.
 ghost use Rattle.std.specs.Prelude.{◌≡◌};
 ghost use Rattle.std.specs.Option.{ok_or};
 ghost use Rattle.wire.specs.Inputs.{decode, seen, reply_of, setup_of, ask_of, mark_of, in_range};
@@ -29,7 +29,7 @@ pub struct Reply {
 }
 
 /// What the box is set up with: how many servers there are, how many of them may be faulty, the local clock's drift in
-/// millionths, and the servers' keys, 32 bytes each, one after another.
+/// millionths, and the servers' keys: the bytes as they stand in the message, 32 for each.
 #[derive(Clone, Copy)]
 pub struct Settings<'a> {
     pub servers: u8,
