@@ -81,7 +81,7 @@ impl Exchange {
         })
     }
 
-    // Makes a moment now, and begins anew if no world is left.
+    // Makes a moment now, and begins anew if no world is left. That all requests are near enough is asked of each step to here: it holds only from the closing of the others to the moment, and a type has no such time.
     fn make(&mut self, marked: bool, claim: Option<Claim>) -> Made
         requires { reach_of (state_of self.old).book.pending ≤ 64 }
         ensures makes { Makes (state_of self.old) (momented marked claim (state_of self.old)) result (state_of self.new) (runs_of self.new) }

@@ -15,7 +15,7 @@ use span::Span;
 use span::rate::Stride;
 use std::alloc::{AllocError, Global};
 
-// A span for each choice of faulty servers, and the runs of times that are said. That the runs say the row is a clause of each call: a ghost field holds only facts of which any two proofs are equal, and a time that may be has many worlds.
+// A span for each choice of faulty servers, and the runs of times that are said. That the runs say the row is a clause of each call: a ghost field holds only facts of which any two proofs are equal, and a time that may be has many worlds. What a call leaves as it was is a clause of each, too: no type says that.
 #[derive(Drop)]
 pub struct Ledger {
     servers: Servers,

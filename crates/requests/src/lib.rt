@@ -108,7 +108,7 @@ impl Requests {
         }
     }
 
-    // Closes the pending request at a place.
+    // Closes the pending request at a place. Here and elsewhere a place is a number that is asked to be one of the list: it is one only of the list in which it was found.
     fn close_at(&mut self, place: usize)
         requires { place < length self.old.pending }
         ensures value { self.new ≡ closed_at place self.old }

@@ -107,6 +107,7 @@ fn write_runs(runs: &[Run], out: &mut [u8])
 
 /// Writes what was reckoned to the front of `out`, and says how many bytes that took. Where there are more than 255 runs
 /// or `out` is too short, it answers none, and `out` stays as it was.
+// How many and not a slice of `out`: that would stay lent, and no contract could say what is left in the rest of it.
 pub fn write_reckoned(out: &mut [u8], count: u64, runs: &[Run], named: u16) -> Option<usize>
     ensures cases { MatchOption result ((room (length runs.now) (length out.old) ≡ false) × (out.new ≡ out.old)) (λ n. (room (length runs.now) (length out.old) ≡ true) × (n ≡ 12 + 16 * length runs.now) × (out.new ≡ bytes_of (reckoned (record { count = count; runs = runs.now; named = named })) ++ drop n out.old)) }
 {
