@@ -1,4 +1,4 @@
-//! The hash for callers in C or Rust, to whom an array cannot be returned.
+//! The hash for callers in C or Rust, to whom neither an array nor a `Result` can be returned, so that a `bool` says whether it was written.
 #![tactic(auto)]
 
 ghost use Rattle.std.specs.Prelude.{◌≡◌, true, length, MatchBool};

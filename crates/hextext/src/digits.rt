@@ -1,4 +1,5 @@
-//! The digit that each character is, by its number, and 16 for one that is none: so the table is one of bytes, and no digit is above all.
+//! The digit that each character is, by its number, and 16 for one that is none: it is above every digit, so that one comparison tells them
+//! apart, and an option for each of the 256 would say no more.
 
 /// A digit for each of the 256 characters.
 pub(crate) static DIGITS: [u8; 256] = [

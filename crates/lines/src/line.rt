@@ -31,7 +31,8 @@ pub struct Heard {
 }
 
 /// At a count the box reckoned in which runs the time can be, and which servers are named as faulty: bit h of `named`
-/// is for server h. The runs are the bytes as they stand in the line, 16 for each; `next_run` reads them.
+/// is for server h. The runs are the bytes as they stand in the line, 16 for each; `next_run` reads them. A list of
+/// runs would need memory of its own.
 #[derive(Clone, Copy)]
 pub struct Reckoned<'a> {
     pub count: u64,

@@ -17,7 +17,7 @@ use span::rate::Drift;
 use std::alloc::{AllocError, Global};
 use thiserror::Error;
 
-// The latest that true time can be at the beginning. An exchange has the same bound, and so has the radius; neither of the two crates stands on the other.
+// The latest that true time can be at the beginning. An exchange has this bound too, and the next: they are rules of a script and of a box and not of spans, so that they do not stand in the library that both use.
 const LATEST: u64 = 1 << 61;
 
 // No reply's radius is larger.

@@ -1,4 +1,5 @@
-//! The bytes of the record's lines, each part at the place that the format gives it.
+//! The bytes of the record's lines, each part at the place that the format gives it. Each kind of line has a writer of its own: what one
+//! for all would take as its parameters is the format again.
 ghost use Rattle.std.specs.Prelude.{◌≡◌, ◌+◌, ◌*◌, ◌<◌, ◌≤◌, true, false, ◌++◌, length, drop, MatchOption};
 ghost use Rattle.std.specs.List.{flat_map};
 ghost use Rattle.lines.specs.Lines.{bytes_of, request, heard, reckoned, marked, said, asked, refused, hand, run_bytes};

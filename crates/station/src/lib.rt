@@ -9,7 +9,7 @@ use hand::Hand;
 pub mod answer;
 mod calls;
 
-// The box once it is set up: its reckoning, its hand, and the servers' keys.
+// The box once it is set up: its reckoning, its hand, and the servers' keys. Clauses see it by a function over its fields: a model would hide the exchange, of which a step of the hand says that it stays.
 #[derive(Drop)]
 pub struct Machine {
     exchange: Exchange,

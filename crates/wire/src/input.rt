@@ -29,7 +29,8 @@ pub struct Reply {
 }
 
 /// What the box is set up with: how many servers there are, how many of them may be faulty, the local clock's drift in
-/// millionths, and the servers' keys: the bytes as they stand in the message, 32 for each.
+/// millionths, and the servers' keys: the bytes as they stand in the message, 32 for each, as the format is defined; how
+/// many servers there are is a part of the message, and no length of these bytes.
 #[derive(Clone, Copy)]
 pub struct Settings<'a> {
     pub servers: u8,
