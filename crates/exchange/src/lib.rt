@@ -14,7 +14,7 @@ pub mod made;
 mod moments;
 mod reads;
 
-// What was kept of a run: the window of its moments, the requests, the local clock's count at the last moment and now, and the runs of times that are said. Clauses see it by functions over its fields: a model would hide from its owner that no request was asked before the mark.
+// What was kept of a run: the window of its moments, the requests, the local clock's count at the last moment and now, and the runs of times that are said. Clauses see it by functions over its fields: its owner's ghost field reads how many servers it has, and that it does so by a model was not tried.
 #[derive(Drop)]
 pub struct Exchange {
     servers: Servers,
