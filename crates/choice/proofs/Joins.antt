@@ -1,38 +1,63 @@
--- Gathering spans and joining runs; and what joined runs hold.
-use Rattle.std.proofs.Common.{◌≡◌, ℕ, suc, ◌+◌, ◌-◌, ◌<◌, ◌≤◌, max, Bool, true, false, cond, ◌&&◌, ◌||◌, leb, List, [], ◌∷◌, filter, map, length, get_or, Some, None, Option, ◌==◌, MatchBool, sym, refl, ap, ◌∙◌, subst, ap₂, ⊎_elim, arith}
-use Rattle.std.specs.List.Retain.{DedupsFrom, IsDeduped}
-use Rattle.std.proofs.lemmas.Bool.{ne_eqb, leb-true, leb-false, both_ways, and_parts, or_cases, or_left, or_right}
+-- Gathering spans and joining runs, step by step; and what joined runs hold.
+use Rattle.std.proofs.Common.{◌≡◌, ℕ, suc, ◌+◌, ◌-◌, ◌<◌, ◌≤◌, max, Bool, true, false, cond, ◌&&◌, ◌||◌, leb, List, [], ◌∷◌, ◌++◌, filter, map, length, get_or, take, drop, set, Some, None, Option, ◌==◌, sym, refl, ap, ◌∙◌, subst, ap₂, ⊎_elim, append_assoc, append-nil, arith}
+use Rattle.std.proofs.lemmas.List.{drop_all, take_more_set, drop-set-lt, at_drop_more}
+use Rattle.std.proofs.lemmas.Bool.{le-leb, lt-leb, ne_eqb, leb-true, leb-false, both_ways, and_parts, or_cases, or_left, or_right}
 use Rattle.std.proofs.lemmas.Bool.Decides.{nat_tests}
 use Rattle.span.specs.declared.Span.TheVariants.{Between, Empty}
 use Rattle.span.specs.Span.{is_in}
 use Rattle.choice.specs.Row.{any_span}
 use Rattle.choice.specs.declared.case.Case.{Case}
 use Rattle.choice.specs.declared.runs.Run.{Run}
-use Rattle.choice.specs.Runs.{in_run, in_runs, is_beside, joined_to, joined, run_in, runs_in, wider, Apart, Bounds, bounds_of, Ordered}
+use Rattle.choice.specs.Runs.{in_run, in_runs, joined_to, joined, run_in, runs_in, Apart, Bounds, bounds_of, Ordered}
 
 abbrev pub none : Run
 none = record { lo = 0; hi = 0 }
 
--- Runs that are joined one after another by a relation that takes the next one in exactly if it overlaps the last or lies beside it.
-module _ {S : Type 0} (R : S → Run → Run → Bool → S → Run → Run → Type 0) (f : (s : S) (next run : Run) (b : Bool) (t : S) (next' run' : Run) → R s next run b t next' run' → (b ≡ is_beside run next) × (next' ≡ next) × (run' ≡ cond (is_beside run next) (wider run next) run)) where
-  chosen : (a b : Bool) (P Q : Type 0) (ys us vs : List Run) → b ≡ a → (a ≡ true → P → ys ≡ us) → (a ≡ false → Q → ys ≡ vs) → MatchBool b P Q → ys ≡ cond a us vs
-  chosen true b P Q ys us vs e p q w = p refl (subst (λ b. MatchBool b P Q) e w)
-  chosen false b P Q ys us vs e p q w = q refl (subst (λ b. MatchBool b P Q) e w)
+abbrev pub no_case : Case
+no_case = record { choice = 0; lo = 0; hi = 0 }
 
-  joins_from : (s : S) (run : Run) (rs ys : List Run) → DedupsFrom R s run rs ys → ys ≡ joined_to run rs
-  unfolding joined_to
-  joins_from s run [] ys h = h
-  joins_from s run (next ∷ rs) ys h =
-      let said = f s next run h.0 h.1 h.2 h.3 h.4 in
-      chosen (is_beside run next) h.0 _ _ ys (joined_to (wider run next) rs) (run ∷ joined_to next rs) said.0
-      (λ b p. joins_from h.1 h.3 rs ys p ∙ ap (λ w. joined_to w rs) (said.2 ∙ ap (λ b. cond b (wider run next) run) b))
-      (λ b q. q.2 ∙ ap₂ (λ w l. w ∷ l) (said.2 ∙ ap (λ b. cond b (wider run next) run) b) (joins_from h.1 h.2 rs q.0 q.1 ∙ ap (λ n. joined_to n rs) said.1))
-      h.5
+abbrev has_run : Case → Bool
+has_run k = leb k.lo k.hi
 
-  pub joins : (s : S) (rs ys : List Run) → IsDeduped R s rs ys → ys ≡ joined rs
-  unfolding joined
-  joins s [] ys h = h.told
-  joins s (r ∷ rs) ys h = joins_from s r rs ys h.told
+pub gather_put : (k n : ℕ) (row : List Case) (room : List Run) → k < length row → n < length room → (get_or row k no_case).lo ≤ (get_or row k no_case).hi → take (n + 1) (set room n (run_in (get_or row k no_case))) ++ runs_in (drop (k + 1) row) ≡ take n room ++ runs_in (drop k row)
+gather_put k n row room h l o =
+    let here = get_or row k no_case in
+    let rest = filter has_run (drop (k + 1) row) in
+    ap (λ x. x ++ map run_in rest) (take_more_set room n (run_in here) l)
+    ∙ append_assoc (take n room) (run_in here ∷ []) (map run_in rest)
+    ∙ ap (λ x. take n room ++ x) (sym (at_drop_more runs_in row k no_case h ∙ ap (λ b. map run_in (cond b (here ∷ rest) rest)) (le-leb here.lo here.hi o)))
+
+pub gather_skip : (k : ℕ) (row : List Case) → k < length row → (get_or row k no_case).hi < (get_or row k no_case).lo → runs_in (drop (k + 1) row) ≡ runs_in (drop k row)
+gather_skip k row h o =
+    let here = get_or row k no_case in
+    let rest = filter has_run (drop (k + 1) row) in
+    sym (at_drop_more runs_in row k no_case h ∙ ap (λ b. map run_in (cond b (here ∷ rest) rest)) (lt-leb here.lo here.hi o))
+
+pub gather_end : (k n : ℕ) (row : List Case) (room : List Run) → length row ≤ k → take n room ++ runs_in (drop k row) ≡ take n room
+gather_end k n row room h = ap (λ l. take n room ++ runs_in l) (drop_all k row h) ∙ append-nil (take n room)
+
+pub join_starts : (rs : List Run) → 0 < length rs → joined_to (get_or rs 0 none) (drop 1 rs) ≡ joined rs
+unfolding joined
+join_starts [] h = absurd (omega arith)
+join_starts (r ∷ rs) h = refl
+
+pub join_closes : (n i : ℕ) (rs : List Run) (wide : Run) → n < i → i < length rs → 1 < (get_or rs i none).lo - wide.hi → take (n + 1) (set rs n wide) ++ joined_to (get_or rs i none) (drop (i + 1) (set rs n wide)) ≡ take n rs ++ joined_to wide (drop i rs)
+unfolding joined_to
+join_closes n i rs wide h l apart =
+    let next = get_or rs i none in
+    ap₂ (λ x y. x ++ joined_to next y) (take_more_set rs n wide (omega arith)) (drop-set-lt (i + 1) rs n wide (omega arith))
+    ∙ append_assoc (take n rs) (wide ∷ []) (joined_to next (drop (i + 1) rs))
+    ∙ ap (λ x. take n rs ++ x) (sym (at_drop_more (joined_to wide) rs i none l ∙ ap (λ b. cond b (joined_to (record { lo = wide.lo; hi = max wide.hi next.hi }) (drop (i + 1) rs)) (wide ∷ joined_to next (drop (i + 1) rs))) (lt-leb (next.lo - wide.hi) 1 apart)))
+
+pub join_grows : (n i : ℕ) (rs : List Run) (wide : Run) → i < length rs → (get_or rs i none).lo - wide.hi ≤ 1 → take n rs ++ joined_to (record { lo = wide.lo; hi = max wide.hi (get_or rs i none).hi }) (drop (i + 1) rs) ≡ take n rs ++ joined_to wide (drop i rs)
+unfolding joined_to
+join_grows n i rs wide l beside =
+    let next = get_or rs i none in
+    ap (λ x. take n rs ++ x) (sym (at_drop_more (joined_to wide) rs i none l ∙ ap (λ b. cond b (joined_to (record { lo = wide.lo; hi = max wide.hi next.hi }) (drop (i + 1) rs)) (wide ∷ joined_to next (drop (i + 1) rs))) (le-leb (next.lo - wide.hi) 1 beside)))
+
+pub join_ends : (n i : ℕ) (rs : List Run) (wide : Run) → n < length rs → length rs ≤ i → take (n + 1) (set rs n wide) ≡ take n rs ++ joined_to wide (drop i rs)
+unfolding joined_to
+join_ends n i rs wide h l = take_more_set rs n wide h ∙ ap (λ x. take n rs ++ x) (sym (ap (joined_to wide) (drop_all i rs l)))
 
 -- What joined runs hold: just what the runs held, if those were in order.
 abbrev pub LowFrom : ℕ → List Run → Type 0
@@ -69,9 +94,6 @@ joined_apart b r (s ∷ ss) l o h = go (leb (s.lo - r.hi) 1) refl (joined_apart 
   go false e one two = (l, o, two (r.hi + 2) (omega (arith, leb-false _ 1 e)))
 
 -- The spans of a row that have times hold what its spans hold.
-abbrev has_run : Case → Bool
-has_run k = leb k.lo k.hi
-
 pub runs_ordered : (row : List Case) → Ordered (runs_in row)
 runs_ordered [] = tt
 runs_ordered (k ∷ row) = go (has_run k) refl (runs_ordered row) where

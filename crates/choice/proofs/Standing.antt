@@ -7,7 +7,7 @@ use Rattle.span.specs.Span.{is_in, holds_none}
 use Rattle.span.specs.Model.{moments, span_of}
 use Rattle.choice.specs.Choice.{bit, Allowed, choice_of}
 use Rattle.choice.specs.Promise.{Full, FaultyInAll, NoWorld}
-use Rattle.choice.specs.Row.{case_of, choices_in, span_in, row_of, row_through, any_span, has_times, named_by}
+use Rattle.choice.specs.Row.{case_of, choices_in, over_row, span_in, row_of, row_through, any_span, has_times, named_by}
 use Rattle.choice.specs.declared.case.Case.{Case}
 use Rattle.choice.specs.Stands.{AllFull, Stands, MayExact, LeftExact, NamedExact, NamesExact}
 use Rattle.choice.proofs.Bits.{bit_there, choice_below, choice_bit}
@@ -136,3 +136,8 @@ names_exact n row set e r es s v = (
   λ h. subst (λ b. Decides b (FaultyInAll r es v)) (sym (ap (λ c. bit c v) e ∙ choice_bit (λ v. named_by v row) n v h)) (named_row r es row s v),
   λ h. bit_there set n v (subst (λ c. c < 2 ^ n) (sym e) (choice_below (λ v. named_by v row) n)) h,
 )
+
+-- spans that are changed leave the choices
+pub choices_over : (f : ℕ → Span → Span) (row : List Case) → choices_in (over_row f row) ≡ choices_in row
+choices_over f [] = refl
+choices_over f (k ∷ row) = ap (λ cs. k.choice ∷ cs) (choices_over f row)

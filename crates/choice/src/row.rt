@@ -31,8 +31,8 @@ pub fn fill_row(row: &mut [Case], span: Span)
     ensures after { row.new ≡ over_row (λ c s. span) row.old }
     ensures fills { RowFills span row.old row.new }
 {
-    for case in row.iter_mut() {
-        *case = Case::new(case.choice, span);
+    for place in row.iter_mut() {
+        *place = Case::new(place.choice, span);
     }
 }
 
@@ -51,8 +51,8 @@ pub fn cut_row(row: &mut [Case], claim: Claim)
     ensures after { row.new ≡ over_row (λ c s. cut_by (bit c) (claim_of claim) s) row.old }
     ensures cuts { RowCuts claim row.old row.new }
 {
-    for case in row.iter_mut() {
-        *case = case.cut(claim);
+    for each in row.iter_mut() {
+        *each = each.cut(claim);
     }
 }
 

@@ -1,8 +1,8 @@
 // What may be, as runs of times.
-ghost use Rattle.std.specs.Prelude.{◌≡◌, ℕ, ◌+◌, ◌≤◌, ◌++◌, length, if◌then◌else◌, vec_capacity, vec_len};
+ghost use Rattle.std.specs.Prelude.{◌≡◌, ℕ, ◌≤◌, length, take};
 ghost use Rattle.span.specs.Span.{is_in};
 ghost use Rattle.choice.specs.Row.{any_span};
-ghost use Rattle.choice.specs.Runs.{in_run, in_runs, is_beside, joined, runs_in, wider, Apart, Bounds, bounds_of, Ordered, RunsExact};
+ghost use Rattle.choice.specs.Runs.{in_run, in_runs, joined, runs_in, Apart, Bounds, bounds_of, Ordered, RunsExact};
 
 use crate::case::Case;
 
@@ -22,66 +22,68 @@ impl Run {
     }
 }
 
-// Whether the next run overlaps a run or lies beside it; the run then takes it in.
-fn is_taken_in(next: &mut Run, run: &mut Run) -> bool
-    ensures value { result ≡ is_beside run.old next.old }
-    ensures run { run.new ≡ (if is_beside run.old next.old then wider run.old next.old else run.old) }
-    ensures next { next.new ≡ next.old }
+// Puts the spans of a row that have times into the front of the room, in their order, and says how many they are. The place is counted: not every case has a run.
+fn gather(row: &[Case], room: &mut [Run]) -> usize
+    requires { length row.now ≤ length room.old }
+    ensures front { take result room.new ≡ runs_in row.now }
+    ensures within { result ≤ length room.new }
 {
-    let beside = next.lo.saturating_sub(run.hi) <= 1;
-    if beside {
-        run.hi = run.hi.max(next.hi);
-    }
-    beside
-}
-
-// Adds the spans of a row that have times, in their order. They are pushed one by one: `extend` may run out of memory, and `push_reserved` can't.
-fn gather(row: &[Case], runs: &mut Vec<Run>)
-    requires { vec_len runs.old + length row.now ≤ vec_capacity runs.old }
-    ensures items { runs.new.items ≡ runs.old.items ++ runs_in row.now }
-    ensures room { vec_capacity runs.new ≡ vec_capacity runs.old }
-{
+    let mut n = 0;
     for case in row {
         if case.lo <= case.hi {
             let lo = case.lo;
             let hi = case.hi;
-            runs.push_reserved(Run { lo, hi });
+            room[n] = Run { lo, hi };
+            n += 1;
         }
     }
+    n
 }
 
-// Joins runs in increasing order that overlap or lie beside each other.
-fn join(runs: &mut Vec<Run>)
-    ensures joined { runs.new.items ≡ joined runs.old.items }
-    ensures few { vec_len runs.new ≤ vec_len runs.old }
-    ensures room { vec_capacity runs.new ≡ vec_capacity runs.old }
+// Joins runs in increasing order that overlap or lie beside each other, into the front of the same slice, and says how many are left. The places are counted: the library's `dedup_by` joins in a `Vec` alone, and what is lent here is a slice.
+fn join(runs: &mut [Run]) -> usize
+    ensures joined { take result runs.new ≡ joined runs.old }
+    ensures within { result ≤ length runs.new }
 {
-    runs.dedup_by(is_taken_in);
+    if runs.is_empty() {
+        return 0;
+    }
+    let mut wide = runs[0];
+    let mut n = 0;
+    for i in 1..runs.len() {
+        let next = runs[i];
+        if next.lo.saturating_sub(wide.hi) > 1 {
+            runs[n] = wide;
+            n += 1;
+            wide = next;
+        } else {
+            wide.hi = wide.hi.max(next.hi);
+        }
+    }
+    runs[n] = wide;
+    n + 1
 }
 
-// Sorts runs and joins them.
-fn tidy(runs: &mut Vec<Run>)
-    ensures apart { Ordered runs.old.items → Apart 0 runs.new.items }
-    ensures same { Ordered runs.old.items → (t : ℕ) → in_runs t runs.new.items ≡ in_runs t runs.old.items }
-    ensures few { vec_len runs.new ≤ vec_len runs.old }
-    ensures room { vec_capacity runs.new ≡ vec_capacity runs.old }
+// Sorts runs and joins them, into the front of the same slice, and says how many are left.
+fn tidy(runs: &mut [Run]) -> usize
+    ensures apart { Ordered runs.old → Apart 0 (take result runs.new) }
+    ensures same { Ordered runs.old → (t : ℕ) → in_runs t (take result runs.new) ≡ in_runs t runs.old }
+    ensures within { result ≤ length runs.old }
 {
     runs.sort_unstable();
-    join(runs);
+    join(runs)
 }
 
-// What may be by the spans of a row, as runs. It allocates nothing: there is room for a run of each case.
-pub fn union(row: &[Case], runs: &mut Vec<Run>)
-    requires { length row.now ≤ vec_capacity runs.old }
-    ensures apart { Apart 0 runs.new.items }
-    ensures same { (t : ℕ) → in_runs t runs.new.items ≡ any_span (is_in t) row.now }
-    ensures exact { RunsExact row.now runs.new.items }
-    ensures few { vec_len runs.new ≤ length row.now }
-    ensures room { vec_capacity runs.new ≡ vec_capacity runs.old }
+// What may be by the spans of a row, as runs in the front of the room: says how many.
+pub fn union(row: &[Case], room: &mut [Run]) -> usize
+    requires { length row.now ≤ length room.old }
+    ensures apart { Apart 0 (take result room.new) }
+    ensures same { (t : ℕ) → in_runs t (take result room.new) ≡ any_span (is_in t) row.now }
+    ensures exact { RunsExact row.now (take result room.new) }
+    ensures few { result ≤ length row.now }
 {
-    runs.clear();
-    gather(row, runs);
-    tidy(runs);
+    let n = gather(row, room);
+    tidy(&mut room[0..n])
 }
 
 // Whether a time is in one of the runs.

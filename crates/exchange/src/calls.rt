@@ -11,6 +11,7 @@ ghost use Rattle.exchange.specs.Calls.{Accepts, Asks, Begins, Makes, Marks, Show
 use crate::Exchange;
 use crate::made::{Heard, Made};
 use choice::case::Claim;
+use choice::runs::Run;
 use choice::servers::Servers;
 use requests::Requests;
 use requests::request::{Over, Unfit};
@@ -69,8 +70,9 @@ impl Exchange {
     {
         let window = Window::new(alloc, servers, drift, LATEST)?;
         let requests = Requests::new(alloc)?;
-        let mut runs = Vec::with_capacity(alloc, window.many())?;
-        window.union(&mut runs);
+        let mut runs = vec![in alloc; Run { lo: 0, hi: 0 }; window.many()]?;
+        let many = window.union(&mut runs);
+        runs.truncate(many);
         Ok(Exchange {
             servers,
             window,

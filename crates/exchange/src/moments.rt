@@ -9,6 +9,7 @@ ghost use Rattle.exchange.specs.Stands.{Said};
 
 use crate::Exchange;
 use choice::case::Claim;
+use choice::runs::Run;
 use requests::request::Over;
 use trail::Moment;
 
@@ -35,12 +36,16 @@ impl Exchange {
         forgot
     }
 
-    // Works out what is said now.
+    // Works out what is said now. The runs have room for one of each choice, so that making them as many allocates nothing.
     fn say(&mut self)
         ensures value { state_of self.new ≡ state_of self.old }
         ensures says { Said (state_of self.new).window.here (runs_of self.new) }
     {
-        self.window.union(&mut self.runs);
+        self.runs
+            .resize(self.window.many(), Run { lo: 0, hi: 0 })
+            .unwrap();
+        let many = self.window.union(&mut self.runs);
+        self.runs.truncate(many);
     }
 
     // Begins anew, since no world is left.

@@ -72,17 +72,27 @@ in_pair chunks text i are h =
       ap (λ l. get_or l 1 0) here ∙ get_or-take 2 (drop (2 * i) text) 1 0 (omega arith) ∙ get_or-drop (2 * i) text 1 0,
     )
 
--- the digits that were read of a pair are small, and make its byte
-pub pair_read : (chunks : List (List ℕ)) (text : List ℕ) (i high low : ℕ) → all_digits text ≡ true
+-- both digits of a pair are small, in whichever order they are taken
+pub chunk_below : (chunks : List (List ℕ)) (text : List ℕ) (i : ℕ) → all_digits text ≡ true
     → chunks ≡ first_chunks 2 (length text / 2) text → i < length text / 2
-    → high ≡ digit_of (get_or (get_or chunks i []) 0 0) → low ≡ digit_of (get_or (get_or chunks i []) 1 0)
-    → (high < 16) × (low < 16) × (16 * high + low ≡ get_or (pairs text) i 0)
-pair_read chunks text i high low digits are h high_is low_is =
+    → (digit_of (get_or (get_or chunks i []) 0 0) < 16) × (digit_of (get_or (get_or chunks i []) 1 0) < 16)
+chunk_below chunks text i digits are h =
     let at = in_pair chunks text i are h in
     let below = pair_below text i digits h in
+    let first : digit_of (get_or (get_or chunks i []) 0 0) ≡ digit_of (get_or text (2 * i) 0) = ap digit_of at.0 in
+    let second : digit_of (get_or (get_or chunks i []) 1 0) ≡ digit_of (get_or text (2 * i + 1) 0) = ap digit_of at.1 in
+    (omega arith, omega arith)
+
+-- the digits that were read of a pair make its byte
+pub pair_read : (chunks : List (List ℕ)) (text : List ℕ) (i high low : ℕ)
+    → chunks ≡ first_chunks 2 (length text / 2) text → i < length text / 2
+    → high ≡ digit_of (get_or (get_or chunks i []) 0 0) → low ≡ digit_of (get_or (get_or chunks i []) 1 0)
+    → 16 * high + low ≡ get_or (pairs text) i 0
+pair_read chunks text i high low are h high_is low_is =
+    let at = in_pair chunks text i are h in
     let first : high ≡ digit_of (get_or text (2 * i) 0) = high_is ∙ ap digit_of at.0 in
     let second : low ≡ digit_of (get_or text (2 * i + 1) 0) = low_is ∙ ap digit_of at.1 in
-    (omega arith, omega arith, ap (λ d. 16 * d + low) first ∙ ap (λ d. 16 * digit_of (get_or text (2 * i) 0) + d) second ∙ sym (pair_at text i (omega arith)))
+    ap (λ d. 16 * d + low) first ∙ ap (λ d. 16 * digit_of (get_or text (2 * i) 0) + d) second ∙ sym (pair_at text i (omega arith))
 
 -- one element more is written
 pub one_more : (ps xs ys : List ℕ) (i v : ℕ) → i < length ps → i < length xs → ys ≡ take i ps ++ drop i xs → v ≡ get_or ps i 0 → set ys i v ≡ take (i + 1) ps ++ drop (i + 1) xs

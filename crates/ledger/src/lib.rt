@@ -32,17 +32,22 @@ impl Ledger {
         ensures servers { IfOk result (λ l. l.servers ≡ servers) }
     {
         let row = new_row(alloc, servers, Span::upto(latest))?;
-        let mut runs = Vec::with_capacity(alloc, row.len())?;
-        union(&row, &mut runs);
+        let mut runs = vec![in alloc; Run { lo: 0, hi: 0 }; row.len()]?;
+        let many = union(&row, &mut runs);
+        runs.truncate(many);
         Ok(Ledger { servers, row, runs })
     }
 
-    // Works out what is said now.
+    // Works out what is said now. The runs have room for one of each case, so that making them as many allocates nothing.
     fn say(&mut self)
         ensures says { Says self.new.row.items self.new.runs.items }
         ensures same { (self.new.row ≡ self.old.row) × (self.new.servers ≡ self.old.servers) }
     {
-        union(&self.row, &mut self.runs);
+        self.runs
+            .resize(self.row.len(), Run { lo: 0, hi: 0 })
+            .unwrap();
+        let many = union(&self.row, &mut self.runs);
+        self.runs.truncate(many);
     }
 
     // Moves all spans on by a stride.

@@ -1,8 +1,9 @@
 -- The oldest request like another.
-use Rattle.std.proofs.Common.{◌≡◌, ℕ, ◌<◌, ◌≤◌, Bool, true, cond, List, length, get_or, Option, Some, None, position, ap, ◌∙◌, arith}
+use Rattle.std.proofs.Common.{◌≡◌, ℕ, ◌<◌, ◌≤◌, Bool, true, cond, List, length, get_or, Option, Some, None, position, unwrap_or, sym, ap, ◌∙◌, arith}
 use Rattle.std.specs.List.{position_or_len}
 use Rattle.std.proofs.lemmas.Bool.{both_ways, lt-ltb}
 use Rattle.std.proofs.lemmas.Bool.Decides.{nat_tests}
+use Rattle.std.proofs.lemmas.List.Quantifiers.{position-Some}
 use Rattle.std.proofs.lemmas.List.Sums.{fails_before_first}
 use Rattle.requests.specs.declared.request.Request.{Request}
 use Rattle.requests.specs.Request.{alike, no_request}
@@ -20,9 +21,14 @@ pub oldest_within : (ps : List Request) (i : ℕ) → i < length ps → (get_or 
 oldest_within ps i l near =
     omega (arith, first_le (alike (get_or ps i no_request)) no_request ps i (like_self (get_or ps i no_request) near))
 
--- what is found among those that are pending
-pub oldest_found : (ps qs : List Request) (i : ℕ) (o : Option ℕ) → o ≡ position (alike (get_or qs i no_request)) ps → qs ≡ ps → i < length ps → (get_or ps i no_request).since < 64 → o ≡ Some (oldest_like i ps)
-oldest_found ps qs i o e same l near =
-    e
-    ∙ ap (λ xs. position (alike (get_or xs i no_request)) ps) same
-    ∙ ap (λ b. cond b (Some (oldest_like i ps)) None) (lt-ltb (oldest_like i ps) (length ps) (oldest_within ps i l near))
+-- what is found among those that are pending, or the place itself where none is like it
+pub oldest_found : (ps qs : List Request) (i : ℕ) (o : Option ℕ) → o ≡ position (alike (get_or qs i no_request)) ps → qs ≡ ps → i < length ps
+    → ((get_or ps i no_request).since < 64 → unwrap_or o i ≡ oldest_like i ps) × (unwrap_or o i < length ps)
+oldest_found ps qs i o e same l =
+    let found : o ≡ position (alike (get_or ps i no_request)) ps = e ∙ ap (λ xs. position (alike (get_or xs i no_request)) ps) same in (
+      λ near. ap (λ x. unwrap_or x i) (found ∙ ap (λ b. cond b (Some (oldest_like i ps)) None) (lt-ltb (oldest_like i ps) (length ps) (oldest_within ps i l near))),
+      inside o found,
+    ) where
+      inside : (o : Option ℕ) → o ≡ position (alike (get_or ps i no_request)) ps → unwrap_or o i < length ps
+      inside None e = l
+      inside (Some k) e = (position-Some (alike (get_or ps i no_request)) ps k no_request (sym e)).0

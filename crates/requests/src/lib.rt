@@ -1,10 +1,10 @@
 // Requests to servers: those that wait for a reply, and those that are closed and still known.
 #![tactic(auto)]
 
-ghost use Rattle.std.specs.Prelude.{◌≡◌, ◌<◌, ◌≤◌, All, filter, length, map, position, IfOk, slice_index_or, vec_capacity};
+ghost use Rattle.std.specs.Prelude.{◌≡◌, ℕ, ◌+◌, ◌<◌, ◌≤◌, All, filter, length, map, position, IfOk, slice_index_or, vec_capacity};
 ghost use Rattle.std.specs.List.{list_any};
 ghost use Rattle.requests.specs.Book.{answered_at, asked_for, closed_at, closed_by, is_full, is_known, no_book, oldest_like, Spare, standing_of, ticked};
-ghost use Rattle.requests.specs.Request.{alike, is_for, later_by, no_request, over, reach_of};
+ghost use Rattle.requests.specs.Request.{alike, is_for, known_upto, later_by, no_request, over, reach_of};
 
 use pending::Pending;
 use request::{Over, Request, Unfit, all_later};
@@ -57,10 +57,12 @@ impl Requests {
         })
     }
 
-    // How many moments one has to go back to reach all that are pending.
+    // How many moments one has to go back to reach all that are pending. Of those that are pending or were closed in the last k moments there are at most 16 + k, and none is known for more than 64 moments.
     pub fn reach(&self) -> usize
         ensures value { result ≡ reach_of self.now.pending }
         ensures near { result ≤ 65 }
+        ensures few { (k : ℕ) → length self.now.pending + known_upto k self.now.closed ≤ 16 + k }
+        ensures fresh { All (λ q. q.since ≤ 64) self.now.closed }
     {
         let reaches = self
             .pending
@@ -172,6 +174,16 @@ impl Requests {
             .position(|request| request.is_like(other))
     }
 
+    // The place of the oldest that is not far and has the server and the count of the one at a place, which is not far itself.
+    fn oldest_like(&self, place: usize) -> usize
+        requires { place < length self.now.pending }
+        ensures value { (slice_index_or self.now.pending place no_request).since < 64 → result ≡ oldest_like place self.now.pending }
+        ensures within { result < length self.now.pending }
+    {
+        let all = self.pending.all();
+        self.first_like(&all[place]).unwrap_or(place)
+    }
+
     // Takes the reply to the request at a place, and says which request it is taken for.
     pub fn answer(&mut self, place: usize) -> Request
         requires near { (slice_index_or self.old.pending place no_request).since < 64 }
@@ -180,8 +192,7 @@ impl Requests {
         ensures taken { result ≡ slice_index_or self.old.pending (oldest_like place self.old.pending) no_request }
         ensures within { oldest_like place self.old.pending < length self.old.pending }
     {
-        let younger = self.pending.all()[place];
-        let oldest = self.first_like(&younger).unwrap();
+        let oldest = self.oldest_like(place);
         let nonce = self.pending.all()[oldest].nonce;
         self.pending.set_nonce(place, nonce);
         self.pending.remove(oldest)

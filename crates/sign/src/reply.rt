@@ -33,7 +33,7 @@ fn reply_front(reading: &Reading) -> [u8; 46]
     ensures value { result ≡ front_of reading.now }
 {
     let mut out = [0; 46];
-    out[0] = Kind::Reply as u8;
+    out[0] = u8::from(Kind::Reply);
     out[1] = reading.server;
     out[34..42].copy_from_slice(&reading.midpoint.to_be_bytes());
     out[42..46].copy_from_slice(&reading.radius.to_be_bytes());

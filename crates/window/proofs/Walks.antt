@@ -1,9 +1,11 @@
 -- Walks of rows through kept moments, windows in another spelling, and how many of the first moments are older.
-use Rattle.std.proofs.Common.{◌≡◌, ℕ, ◌-◌, ◌≤◌, ltb, List, length, take, drop, ap, ◌∙◌, arith, length-take}
+use Rattle.std.proofs.Common.{◌≡◌, ℕ, ◌-◌, ◌≤◌, ltb, List, [], ◌∷◌, length, take, drop, refl, ap, ◌∙◌, arith, length-take}
 use Rattle.std.proofs.lemmas.List.Folds.{length-prefix_len}
 use Rattle.choice.specs.declared.case.Case.{Case}
 use Rattle.trail.specs.declared.Moment.{Moment}
-use Rattle.trail.specs.Trail.{walked}
+use Rattle.choice.specs.Row.{choices_in, over_row}
+use Rattle.choice.proofs.Standing.{choices_over}
+use Rattle.trail.specs.Trail.{stepped, walked}
 use Rattle.window.specs.View.{View}
 use Rattle.window.specs.Steps.{older, two_hours}
 
@@ -25,3 +27,9 @@ view_same s d l {b} {b'} {m} {m'} {h} {h'} {k} {k'} p q r t =
 
 pub older_within : (count : ℕ) (w : List Moment) → older count w ≤ length w
 older_within count w = omega (arith, length-prefix_len (λ m. ltb two_hours (count - m.count)) w, length-take (older count w) w)
+
+-- a walk leaves the choices of a row
+pub choices_walked : (d : ℕ) (ms : List Moment) (row : List Case) → choices_in (walked d ms row) ≡ choices_in row
+unfolding walked
+choices_walked d [] row = refl
+choices_walked d (m ∷ ms) row = choices_walked d ms (over_row (stepped d m) row) ∙ choices_over (stepped d m) row

@@ -1,6 +1,7 @@
 // What is done with a window.
 ghost use Rattle.std.specs.Prelude.{◌≡◌, ◌+◌, ◌^◌, ◌<◌, ◌≤◌, length, IfOk};
 ghost use Rattle.choice.specs.Choice.{chosen};
+ghost use Rattle.choice.specs.Row.{choices_in};
 ghost use Rattle.choice.specs.declared.case.Claim.TheVariants.{AtMost};
 ghost use Rattle.window.specs.View.{view_of};
 ghost use Rattle.window.specs.Steps.{aged, anew, answered, begun, forgets_all, forgot, is_full, made_by, marked_here, marked_on, older, roomy, settled, wound};
@@ -50,8 +51,8 @@ impl Window {
     {
         let ever = Span::upto(latest);
         let base = new_row(alloc, servers, ever)?;
-        let mark = new_row(alloc, servers, ever)?;
-        let here = new_row(alloc, servers, ever)?;
+        let mark = Vec::from_slice(alloc, &base)?;
+        let here = Vec::from_slice(alloc, &base)?;
         let ring = Ring::new(alloc)?;
         Ok(Window {
             servers,
@@ -69,6 +70,7 @@ impl Window {
         requires { length (view_of self.old).kept < 1024 }
         ensures value { view_of self.new ≡ made_by moment (view_of self.old) }
         ensures adds { Adds moment (view_of self.old) (view_of self.new) }
+        ensures choices { choices_in (view_of self.new).here ≡ choices_in (view_of self.old).here }
     {
         step_row(&mut self.here, self.drift, moment);
         self.ring.push(moment);
@@ -162,6 +164,7 @@ impl Window {
         requires { since < self.old.lag }
         ensures value { view_of self.new ≡ answered since (AtMost server greatest) (view_of self.old) }
         ensures bounds { Bounds since server greatest (view_of self.old) (view_of self.new) }
+        ensures choices { choices_in (view_of self.new).here ≡ choices_in (view_of self.old).here }
     {
         let place = self.ring.len() - 1 - since;
         self.ring.claim(place, Claim::AtMost(server, greatest));
@@ -172,6 +175,7 @@ impl Window {
     pub fn begin_anew(&mut self)
         ensures value { view_of self.new ≡ anew (view_of self.old) }
         ensures restarts { Restarts (view_of self.old) (view_of self.new) }
+        ensures choices { choices_in (view_of self.new).here ≡ choices_in (view_of self.old).here }
     {
         forget_all(&mut self.base);
         forget_all(&mut self.mark);

@@ -1,5 +1,5 @@
 // What is read off a window.
-ghost use Rattle.std.specs.Prelude.{◌≡◌, ℕ, ◌<◌, ◌≤◌, length, vec_capacity, vec_len};
+ghost use Rattle.std.specs.Prelude.{◌≡◌, ℕ, ◌<◌, ◌≤◌, length, take};
 ghost use Rattle.span.specs.Span.{is_in};
 ghost use Rattle.choice.specs.Choice.{choice_of};
 ghost use Rattle.choice.specs.Row.{any_span, has_times, named_by};
@@ -16,9 +16,10 @@ use past::said_of;
 use trail::Moment;
 
 impl Window {
-    // The kept moments, the oldest first.
+    // The kept moments, the oldest first: at most 1,024.
     pub fn kept(&self) -> &[Moment]
         ensures value { result.now ≡ (view_of self.now).kept }
+        ensures few { length result.now ≤ 1024 }
     {
         self.ring.all()
     }
@@ -56,15 +57,14 @@ impl Window {
         said_of(&self.base, self.drift, self.ring.all(), place)
     }
 
-    // What may be now, as runs. It allocates nothing: there is room for a run of each choice.
-    pub fn union(&self, runs: &mut Vec<Run>)
-        requires { length (view_of self.now).here ≤ vec_capacity runs.old }
-        ensures apart { Apart 0 runs.new.items }
-        ensures same { (t : ℕ) → in_runs t runs.new.items ≡ any_span (is_in t) (view_of self.now).here }
-        ensures exact { RunsExact (view_of self.now).here runs.new.items }
-        ensures few { vec_len runs.new ≤ length (view_of self.now).here }
-        ensures room { vec_capacity runs.new ≡ vec_capacity runs.old }
+    // What may be now, as runs in the front of the room: says how many.
+    pub fn union(&self, room: &mut [Run]) -> usize
+        requires { length (view_of self.now).here ≤ length room.old }
+        ensures apart { Apart 0 (take result room.new) }
+        ensures same { (t : ℕ) → in_runs t (take result room.new) ≡ any_span (is_in t) (view_of self.now).here }
+        ensures exact { RunsExact (view_of self.now).here (take result room.new) }
+        ensures few { result ≤ length (view_of self.now).here }
     {
-        union(&self.here, runs);
+        union(&self.here, room)
     }
 }

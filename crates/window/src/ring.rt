@@ -69,6 +69,7 @@ impl Ring {
     // All of them, the oldest first.
     pub fn all(&self) -> &[Moment]
         ensures value { result.now ≡ self.now }
+        ensures few { length self.now ≤ 1024 }
     {
         &self.moments[self.start..]
     }

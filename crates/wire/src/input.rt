@@ -4,7 +4,7 @@
 ghost use Rattle.std.specs.Prelude.{◌≡◌};
 ghost use Rattle.std.specs.Option.{ok_or};
 ghost use Rattle.wire.specs.Inputs.{decode, seen, reply_of, setup_of, ask_of, mark_of, in_range};
-ghost use Rattle.wire.specs.Kinds.{kind_of};
+ghost use Rattle.wire.specs.Kinds.{kind_of, number_of};
 ghost use Rattle.wire.specs.Laws.{MessageLaws};
 ghost use Rattle.wire.specs.declared.refusal.Refusal.TheVariants.{Malformed};
 
@@ -65,6 +65,14 @@ pub enum Kind {
     Ask = 18,
     Mark = 19,
     Event = 20,
+}
+
+impl From<Kind> for u8 {
+    ghost from_gives = { λ kind number. number ≡ number_of kind };
+
+    fn from(kind: Kind) -> u8 {
+        kind as u8
+    }
 }
 
 impl TryFrom<u8> for Kind {

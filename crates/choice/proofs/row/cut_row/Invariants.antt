@@ -6,5 +6,5 @@ use Rattle.choice.specs.Moves.{claim_of}
 use Rattle.choice.proofs.row.cut_row.Given as goal
 
 -- what is done and what is left to do are the whole
-abbrev pub invariant-loop-case : goal.invariant-loop-case
-invariant-loop-case l = take l.case-index l.row ++ over_row (λ c s. cut_by (bit c) (claim_of l.claim) s) (drop l.case-index l.row) ≡ over_row (λ c s. cut_by (bit c) (claim_of l.claim) s) l.initial.row
+abbrev pub invariant-loop-each : goal.invariant-loop-each
+invariant-loop-each l = take l.each-index l.row ++ over_row (λ c s. cut_by (bit c) (claim_of l.claim) s) (drop l.each-index l.row) ≡ over_row (λ c s. cut_by (bit c) (claim_of l.claim) s) l.initial.row

@@ -1,10 +1,7 @@
-use Rattle.std.proofs.Common.{◌≡◌, ◌+◌, ◌≤◌, ◌++◌, take, vec_capacity, vec_items, vec_len}
+use Rattle.std.proofs.Common.{◌≡◌, ◌≤◌, ◌++◌, take, drop}
 use Rattle.choice.specs.Runs.{runs_in}
 use Rattle.choice.proofs.runs.gather.Given as goal
 
+-- what was put and what is left to look at are the whole
 abbrev pub invariant-loop-case : goal.invariant-loop-case
-invariant-loop-case l = record {
-  items : vec_items l.runs ≡ vec_items l.initial.runs ++ runs_in (take l.case-index l.row);
-  room : vec_capacity l.runs ≡ vec_capacity l.initial.runs;
-  few : vec_len l.runs ≤ vec_len l.initial.runs + l.case-index;
-}
+invariant-loop-case l = (l.n ≤ l.case-index) × (take l.n l.room ++ runs_in (drop l.case-index l.row) ≡ runs_in l.row)

@@ -3,7 +3,7 @@ use Rattle.std.proofs.lemmas.List.{with_items_is}
 use Rattle.span.specs.Span.{moved}
 use Rattle.span.specs.declared.Span.{Span}
 use Rattle.choice.specs.Row.{choices_in, over_row}
-use Rattle.ledger.proofs.Runs.{choices_over}
+use Rattle.choice.proofs.Standing.{choices_over}
 use Rattle.ledger.proofs.Ledger.advance.Goals as goal
 
 pub returns-clause-choices : goal.returns-clause-choices

@@ -5,7 +5,7 @@ use Rattle.choice.specs.Choice.{bit}
 use Rattle.choice.specs.Moves.{claim_of}
 use Rattle.span.specs.declared.Span.{Span}
 use Rattle.choice.specs.Row.{choices_in, over_row}
-use Rattle.ledger.proofs.Runs.{choices_over}
+use Rattle.choice.proofs.Standing.{choices_over}
 use Rattle.ledger.proofs.Ledger.cut.Goals as goal
 
 pub returns-clause-choices : goal.returns-clause-choices

@@ -1,9 +1,9 @@
-use Rattle.std.proofs.Common.{◌≡◌, ◌+◌, max, fold, unwrap_or, ap, ◌∙◌, rules, tests, arith}
+use Rattle.std.proofs.Common.{◌≡◌, ◌+◌, ◌≤◌, max, All, fold, length, unwrap_or, subst, ap, ◌∙◌, rules, tests, arith}
 use Rattle.std.proofs.lemmas.Iterator.{YieldsList-from_slice, YieldsList-from_map}
 use Rattle.std.proofs.lemmas.Iterator.Consumers.{reduce_from_yields_List}
 use Rattle.std.proofs.lemmas.List.Folds.{max_of_map}
 use Rattle.requests.specs.declared.request.Request.{Request}
-use Rattle.requests.specs.Request.{reach_of}
+use Rattle.requests.specs.Request.{known_upto, reach_of}
 use Rattle.requests.proofs.Reach.{reach_from}
 use Rattle.requests.proofs.Requests.reach.Goals as goal
 
@@ -16,4 +16,6 @@ returns c =
     record {
       value = omega (arith, greatest, reach_from 0 ps, ap (λ b. reach_of b.pending) c.self.view_is);
       near = omega (arith, greatest, reach_from 0 ps, c.self.invariant.near);
+      few = λ k. omega (arith, c.self.invariant.few k, ap (λ b. length b.pending) c.self.view_is, ap (λ b. known_upto k b.closed) c.self.view_is);
+      fresh = subst (λ b. All (λ q. q.since ≤ 64) b.closed) c.self.view_is c.self.invariant.fresh;
     }

@@ -6,4 +6,4 @@ returns c =
     let first = c.copy_from_slice.ensures.after ∙ c.to_be_bytes.ensures in
     let second = c.copy_from_slice-2.ensures.after ∙ c.to_be_bytes-2.ensures in
     let third = c.copy_from_slice-3.ensures.after in
-    record { value = simp (first, second, third) }
+    record { value = simp (c.from.ensures, first, second, third) }
