@@ -1,8 +1,9 @@
 // What an exchange says.
-ghost use Rattle.std.specs.Prelude.{◌≡◌, position, Some, None, MatchResult};
+ghost use Rattle.std.specs.Prelude.{◌≡◌, ℕ, ◌+◌, ◌≤◌, All, length, position, Some, None, MatchResult};
 ghost use Rattle.choice.specs.Choice.{choice_of};
 ghost use Rattle.choice.specs.Row.{named_by};
 ghost use Rattle.wire.specs.declared.refusal.Refusal.TheVariants.{UnknownEvent};
+ghost use Rattle.requests.specs.Request.{known_upto, reach_of};
 ghost use Rattle.exchange.specs.State.{runs_of, state_of};
 ghost use Rattle.exchange.specs.Steps.{event_said, is_this};
 ghost use Rattle.exchange.specs.Stands.{NamesWorlds, SaysWorlds};
@@ -31,6 +32,16 @@ impl Exchange {
         self.count
     }
 
+    // How many moments one has to go back to reach all requests that are pending; above 64 a showing is put off. Of the requests that are pending or were closed in the last k moments there are at most 16 + k, and none is known for more than 64 moments.
+    pub fn reach_back(&self) -> usize
+        ensures value { result ≡ reach_of (state_of self.now).book.pending }
+        ensures near { result ≤ 65 }
+        ensures few { (k : ℕ) → length (state_of self.now).book.pending + known_upto k (state_of self.now).book.closed ≤ 16 + k }
+        ensures fresh { All (λ q. q.since ≤ 64) (state_of self.now).book.closed }
+    {
+        self.requests.reach()
+    }
+
     // The runs of times that are said.
     pub fn runs(&self) -> &[Run]
         ensures value { result.now ≡ runs_of self.now }
@@ -47,10 +58,11 @@ impl Exchange {
         self.window.named()
     }
 
-    // The least and the greatest time that it can have been when an event was marked at a count, by all that is known now.
+    // The least and the greatest time that it can have been when an event was marked at a count, by all that is known now. At most 1,024 moments are kept.
     pub fn event(&self, count: u64) -> Result<(u64, u64), Refusal>
         ensures value { MatchResult result (λ b. event_said count (state_of self.now) ≡ Some b) (λ e. (event_said count (state_of self.now) ≡ None) × (e ≡ UnknownEvent)) }
         ensures exact { EventWorlds count (state_of self.now) (runs_of self.now) result }
+        ensures few { length (state_of self.now).window.kept ≤ 1024 }
         ensures narrows { NeverWidens }
     {
         let place = find_event(self.window.kept(), count, self.count).ok_or(Refusal::UnknownEvent)?;
