@@ -17,7 +17,7 @@ pub begins : (n f latest : ℕ) (cs : List ℕ) (row : List Case) → AllChosen 
 unfolding moments through
 begins n f latest cs row all e r s q l t = stands_by r [] cs row (all r s q l) (e ∙ ap (λ x. row_of (λ c. upto x) cs) (sym t))
 
-passes : (low high : ℕ) (row after : List Case) → RowMoves low high row after → Passes low high row after
+pub passes : (low high : ℕ) (row after : List Case) → RowMoves low high row after → Passes low high row after
 unfolding moments
 passes low high row after moves r es n s h = stands_by r (shows n ∷ es) (choices_in row) after h.choices (moves r (moments es) (choices_in row) n s h.spans)
 

@@ -21,14 +21,20 @@ pub oldest_within : (ps : List Request) (i : ℕ) → i < length ps → (get_or 
 oldest_within ps i l near =
     omega (arith, first_le (alike (get_or ps i no_request)) no_request ps i (like_self (get_or ps i no_request) near))
 
--- what is found among those that are pending, or the place itself where none is like it
-pub oldest_found : (ps qs : List Request) (i : ℕ) (o : Option ℕ) → o ≡ position (alike (get_or qs i no_request)) ps → qs ≡ ps → i < length ps
+-- what is found among those that are pending
+pub oldest_found : (ps qs : List Request) (i : ℕ) (o : Option ℕ) → o ≡ position (alike (get_or qs i no_request)) ps → qs ≡ ps → i < length ps → (get_or ps i no_request).since < 64 → o ≡ Some (oldest_like i ps)
+oldest_found ps qs i o e same l near =
+    e
+    ∙ ap (λ xs. position (alike (get_or xs i no_request)) ps) same
+    ∙ ap (λ b. cond b (Some (oldest_like i ps)) None) (lt-ltb (oldest_like i ps) (length ps) (oldest_within ps i l near))
+
+-- that, or the place itself where none is like it
+pub oldest_or_place : (ps qs : List Request) (i : ℕ) (o : Option ℕ) → o ≡ position (alike (get_or qs i no_request)) ps → qs ≡ ps → i < length ps
     → ((get_or ps i no_request).since < 64 → unwrap_or o i ≡ oldest_like i ps) × (unwrap_or o i < length ps)
-oldest_found ps qs i o e same l =
-    let found : o ≡ position (alike (get_or ps i no_request)) ps = e ∙ ap (λ xs. position (alike (get_or xs i no_request)) ps) same in (
-      λ near. ap (λ x. unwrap_or x i) (found ∙ ap (λ b. cond b (Some (oldest_like i ps)) None) (lt-ltb (oldest_like i ps) (length ps) (oldest_within ps i l near))),
-      inside o found,
-    ) where
-      inside : (o : Option ℕ) → o ≡ position (alike (get_or ps i no_request)) ps → unwrap_or o i < length ps
-      inside None e = l
-      inside (Some k) e = (position-Some (alike (get_or ps i no_request)) ps k no_request (sym e)).0
+oldest_or_place ps qs i o e same l = (
+  λ near. ap (λ x. unwrap_or x i) (oldest_found ps qs i o e same l near),
+  inside o (e ∙ ap (λ xs. position (alike (get_or xs i no_request)) ps) same),
+) where
+  inside : (o : Option ℕ) → o ≡ position (alike (get_or ps i no_request)) ps → unwrap_or o i < length ps
+  inside None e = l
+  inside (Some k) e = (position-Some (alike (get_or ps i no_request)) ps k no_request (sym e)).0
